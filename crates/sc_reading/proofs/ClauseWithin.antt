@@ -29,7 +29,7 @@ pub record Within (ts : List Token) : Type 0 where
 
 -- ---- what a limit that isn't passed says
 
-not_when : {X : Type 0} (b : Bool) (x : X) (o : Option X) → o ≡ Some x → when b o ≡ None → b ≡ false
+pub not_when : {X : Type 0} (b : Bool) (x : X) (o : Option X) → o ≡ Some x → when b o ≡ None → b ≡ false
 not_when true x o e h = absurd cc
 not_when false x o e h = refl
 
