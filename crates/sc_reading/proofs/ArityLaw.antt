@@ -32,10 +32,57 @@ SmallArity o = o.arity ≤ 8
 abbrev commas_then : ℕ → Sides → ℕ
 commas_then n f = n + (count f - 1)
 
+closed : (m n : ℕ) (ns : List ℕ) (c : ℕ) → open_commas (m ∷ n ∷ ns) (Punctuation c Close ∷ []) ≡ n ∷ ns
+closed m n ns c = refl
+
+brackets-commas : (h : Head) (args : Sides) (n : ℕ) (ns : List ℕ) → open_commas (0 ∷ n ∷ ns) (tokens_of args) ≡ commas_then 0 args ∷ n ∷ ns → open_commas (n ∷ ns) (in_brackets h args (tokens_of args)) ≡ n ∷ ns
+brackets-commas h Empty n ns e = refl
+brackets-commas h (Entry g args comma others) n ns e =
+    open_commas-append (0 ∷ n ∷ ns) (tokens_of (Entry g args comma others)) (Punctuation h.closing Close ∷ []) ∙ ap (λ commas. open_commas commas (Punctuation h.closing Close ∷ [])) e
+
+comma-commas : (at : ℕ) (others : Sides) (n : ℕ) (ns : List ℕ) → open_commas ((n + 1) ∷ ns) (tokens_of others) ≡ (commas_then (n + 1) others) ∷ ns
+    → open_commas (n ∷ ns) (behind_comma at others (tokens_of others)) ≡ (n + (count others + 1 - 1)) ∷ ns
+comma-commas at Empty n ns e = let k : n ≡ n + (0 + 1 - 1) = omega arith in ap (λ (n : ℕ). n ∷ ns) k
+comma-commas at (Entry g args comma others) n ns e = let k : n + 1 + (count others + 1 - 1) ≡ n + (count others + 1 + 1 - 1) = omega arith in e ∙ ap (λ (n : ℕ). n ∷ ns) k
+
 pub sides-commas : (f : Sides) (n : ℕ) (ns : List ℕ) → open_commas (n ∷ ns) (tokens_of f) ≡ commas_then n f ∷ ns
-sides-commas Empty n ns = ?
-sides-commas (Entry h args comma others) n ns = ?
+sides-commas Empty n ns = let k : n ≡ n + (0 - 1) = omega arith in ap (λ (n : ℕ). n ∷ ns) k
+sides-commas (Entry h args comma others) n ns =
+    let behind = behind_comma comma others (tokens_of others) in
+    open_commas-append (n ∷ ns) (in_brackets h args (tokens_of args)) behind
+    ∙ ap (λ (commas : List ℕ). open_commas commas behind) (brackets-commas h args n ns (sides-commas args 0 (n ∷ ns)))
+    ∙ comma-commas comma others n ns (sides-commas others (n + 1) ns)
+
+brackets-arity : (h : Head) (args : Sides) (n : ℕ) (ns : List ℕ) → FewCommas (n ∷ ns) (in_brackets h args (tokens_of args))
+    → ((n : ℕ) (ns : List ℕ) → n ≤ 7 → FewCommas (n ∷ ns) (tokens_of args) → AllByRecursion SmallArity (occurrences args) × (n + count args ≤ 8))
+    → AllByRecursion SmallArity (occurrences args) × (count args ≤ 8)
+brackets-arity h Empty n ns few ih = (tt, omega arith)
+brackets-arity h (Entry g args comma others) n ns few ih =
+    let ts = tokens_of (Entry g args comma others) in
+    let close = Punctuation h.closing Close ∷ [] in
+    let inner = few_front (0 ∷ n ∷ ns) ts close (few_back (n ∷ ns) (Punctuation h.opening Open ∷ []) (ts ++ close) few) in
+    let k = ih 0 (n ∷ ns) (omega arith) inner in
+    let le = k.1 in
+    (k.0, omega arith)
+
+comma-arity : (at : ℕ) (others : Sides) (n : ℕ) (ns : List ℕ) → n ≤ 7 → FewCommas (n ∷ ns) (behind_comma at others (tokens_of others))
+    → ((n : ℕ) (ns : List ℕ) → n ≤ 7 → FewCommas (n ∷ ns) (tokens_of others) → AllByRecursion SmallArity (occurrences others) × (n + count others ≤ 8))
+    → AllByRecursion SmallArity (occurrences others) × (n + (count others + 1) ≤ 8)
+comma-arity at Empty n ns le few ih = (tt, omega arith)
+comma-arity at (Entry g args comma others) n ns le few ih =
+    let ts = tokens_of (Entry g args comma others) in
+    let comma : n + 1 ≤ 7 = few (Punctuation at Comma ∷ []) ts refl in
+    let k = ih (n + 1) ns comma (few_back (n ∷ ns) (Punctuation at Comma ∷ []) ts few) in
+    let le = k.1 in
+    (k.0, omega arith)
 
 pub sides-arity : (f : Sides) (n : ℕ) (ns : List ℕ) → n ≤ 7 → FewCommas (n ∷ ns) (tokens_of f) → AllByRecursion SmallArity (occurrences f) × (n + count f ≤ 8)
-sides-arity Empty n ns le h = (tt, omega arith)
-sides-arity (Entry h' args comma others) n ns le h = ?
+sides-arity Empty n ns le few = (tt, omega arith)
+sides-arity (Entry h args comma others) n ns le few =
+    let inner = in_brackets h args (tokens_of args) in
+    let behind = behind_comma comma others (tokens_of others) in
+    let rest = few_back (n ∷ ns) (Word h.at h.text ∷ []) (inner ++ behind) few in
+    let a = brackets-arity h args n ns (few_front (n ∷ ns) inner behind rest) (sides-arity args) in
+    let b = comma-arity comma others n ns le
+        (subst (λ commas. FewCommas commas behind) (brackets-commas h args n ns (sides-commas args 0 (n ∷ ns))) (few_back (n ∷ ns) inner behind rest)) (sides-arity others) in
+    ((a.1, all_join SmallArity (occurrences args) (occurrences others) a.0 b.0), b.1)

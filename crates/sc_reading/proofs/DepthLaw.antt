@@ -22,6 +22,20 @@ fold-max a (x ∷ xs) = let e = fold-max (max a x) xs in let k = fold-max (max 0
 pub largest-cons : (x : ℕ) (xs : List ℕ) → largest (x ∷ xs) ≡ max x (largest xs)
 largest-cons x xs = let e = fold-max (max 0 x) xs in omega arith
 
+-- what tokens add to the level of those behind them: at least this much above a level
+record LevelsOf (around low : ℕ) (ts more : List Token) (depth : ℕ) : Type 0 where
+  deep : depth ≤ greatest_level around (ts ++ more) - low
+  behind : greatest_level around more ≤ greatest_level around (ts ++ more)
+
+in_brackets-levels : (around o c : ℕ) (ts more : List Token) (depth : ℕ) → depth ≤ greatest_level (around + 1) (ts ++ Punctuation c Close ∷ more) - (around + 1)
+    → greatest_level (around + 1) (Punctuation c Close ∷ more) ≤ greatest_level (around + 1) (ts ++ Punctuation c Close ∷ more)
+    → LevelsOf around (around + 1) (Punctuation o Open ∷ (ts ++ Punctuation c Close ∷ [])) more depth
+in_brackets-levels around o c ts more depth d b =
+    let same : greatest_level (around + 1) ((ts ++ Punctuation c Close ∷ []) ++ more) ≡ greatest_level (around + 1) (ts ++ Punctuation c Close ∷ more) = ap (greatest_level (around + 1)) (append_assoc ts (Punctuation c Close ∷ []) more) in
+    let back : around + 1 - 1 ≡ around = omega arith in
+    let level : greatest_level (around + 1 - 1) more ≡ greatest_level around more = ap (λ (n : ℕ). greatest_level n more) back in
+    record { deep = omega arith; behind = omega arith }
+
 module _ (variable : Occurrence → Option ℕ) (symbols : List Symbol) where
   abbrev pub depth_of : Sides → ℕ
   depth_of f = largest (map term_depth (terms variable symbols f))
@@ -38,18 +52,33 @@ module _ (variable : Occurrence → Option ℕ) (symbols : List Symbol) where
     pub deep : depth_of f ≤ greatest_level around (tokens_of f ++ more) - around
     pub behind : greatest_level around more ≤ greatest_level around (tokens_of f ++ more)
 
-  record LevelsOf (around : ℕ) (ts more : List Token) (depth : ℕ) : Type 0 where
-    deep : depth ≤ greatest_level around (ts ++ more) - (around + 1)
-    behind : greatest_level around more ≤ greatest_level around (ts ++ more)
-
-  bracket-levels : (around : ℕ) (h : Head) (args : Sides) (more : List Token) → ((around : ℕ) (more : List Token) → Levels around args more) → LevelsOf around (in_brackets h args (tokens_of args)) more (depth_of args)
+  bracket-levels : (around : ℕ) (h : Head) (args : Sides) (more : List Token) → ((around : ℕ) (more : List Token) → Levels around args more)
+      → LevelsOf around (around + 1) (in_brackets h args (tokens_of args)) more (depth_of args)
   bracket-levels around h Empty more ih = record { deep = omega arith; behind = omega arith }
-  bracket-levels around h (Entry g args comma others) more ih = ?
+  bracket-levels around h (Entry g args comma others) more ih =
+      let l = ih (around + 1) (Punctuation h.closing Close ∷ more) in
+      in_brackets-levels around h.opening h.closing (tokens_of (Entry g args comma others)) more (depth_of (Entry g args comma others)) l.deep l.behind
 
-  comma-levels : (around at : ℕ) (others : Sides) (more : List Token) → Levels around others more → LevelsOf around (behind_comma at others (tokens_of others)) more 0
+  comma-levels : (around at : ℕ) (others : Sides) (more : List Token) → Levels around others more → LevelsOf around around (behind_comma at others (tokens_of others)) more (depth_of others)
   comma-levels around at Empty more l = record { deep = omega arith; behind = omega arith }
-  comma-levels around at (Entry g args comma others) more l = ?
+  comma-levels around at (Entry g args comma others) more l = record { deep = l.deep; behind = l.behind }
 
   pub sides-levels : (f : Sides) (around : ℕ) (more : List Token) → Levels around f more
   sides-levels Empty around more = record { deep = omega arith; behind = omega arith }
-  sides-levels (Entry h args comma others) around more = ?
+  sides-levels (Entry h args comma others) around more =
+      let inner = in_brackets h args (tokens_of args) in
+      let behind = behind_comma comma others (tokens_of others) in
+      let o = occurrence h args in
+      let b = bracket-levels around h args (behind ++ more) (sides-levels args) in
+      let c = comma-levels around comma others more (sides-levels others around more) in
+      let same : greatest_level around ((inner ++ behind) ++ more) ≡ greatest_level around (inner ++ (behind ++ more)) = ap (greatest_level around) (append_assoc inner behind more) in
+      let t = term-shallow o (terms variable symbols args) in
+      let l = largest-cons (term_depth (term_from variable symbols o (terms variable symbols args))) (map term_depth (terms variable symbols others)) in
+      let e = entry-levels around h (inner ++ behind) more (depth_of (Entry h args comma others)) (greatest_level around (inner ++ (behind ++ more))) (greatest_level around (behind ++ more))
+      (term_depth (term_from variable symbols o (terms variable symbols args))) (depth_of args) (depth_of others) same l t b.deep b.behind c.deep c.behind in
+      record { deep = e.deep; behind = e.behind }
+    where
+      entry-levels : (around : ℕ) (h : Head) (ts more : List Token) (depth level level' d da db : ℕ) → greatest_level around (ts ++ more) ≡ level → depth ≡ max d db → d ≤ 1 + da
+          → da ≤ level - (around + 1) → level' ≤ level → db ≤ level' - around → greatest_level around more ≤ level'
+          → record { deep : depth ≤ greatest_level around ((Word h.at h.text ∷ ts) ++ more) - around; behind : greatest_level around more ≤ greatest_level around ((Word h.at h.text ∷ ts) ++ more) }
+      entry-levels around h ts more depth level level' d da db same l t bd bb cd cb = record { deep = omega arith; behind = omega arith }

@@ -1,7 +1,7 @@
 -- A clause's weight is at most the count over its tokens.
 use Rattle.std.proofs.Common.{◌≡◌, ◌∙◌, sym, ap, subst, refl, ℕ, ◌+◌, ◌≤◌, Bool, true, false, List, [], ◌∷◌, ◌++◌, map, sum, Option, Some, None, arith}
 use Rattle.std.specs.Prelude.{flat_map, count_by}
-use Rattle.std.proofs.lemmas.List.Sums.{sum_by-append}
+use Rattle.std.proofs.lemmas.List.Sums.{sum_by-append, sum_by-cons}
 use Rattle.sc_data.specs.declared.SymId.{SymId}
 use Rattle.sc_data.specs.declared.Term.{Term}
 use Rattle.sc_data.specs.declared.Term.TheVariants.{Var, App}
@@ -23,6 +23,12 @@ use Rattle.sc_reading.proofs.Terms.{term_from, terms, sides_under}
 pub weight-append : (xs ys : List Token) → weight_so_far (xs ++ ys) ≡ weight_so_far xs + weight_so_far ys
 weight-append xs ys = sum_by-append _ xs ys
 
+word-weight : (at : ℕ) (text : List ℕ) (ts : List Token) → weight_so_far (Word at text ∷ ts) ≡ 1 + weight_so_far ts
+word-weight at text ts = sum_by-cons _ (Word at text) ts
+
+sum-cons : (n : ℕ) (ns : List ℕ) → sum (n ∷ ns) ≡ n + sum ns
+sum-cons n ns = sum_by-cons (λ n. n) n ns
+
 brackets-weight : (h : Head) (args : Sides) → weight_so_far (in_brackets h args (tokens_of args)) ≡ weight_so_far (tokens_of args)
 brackets-weight h Empty = refl
 brackets-weight h (Entry g args comma others) = weight-append (tokens_of (Entry g args comma others)) (Punctuation h.closing Close ∷ []) ∙ omega arith
@@ -36,10 +42,11 @@ sides-weight h args comma others =
     let s = weight-append (in_brackets h args (tokens_of args)) (behind_comma comma others (tokens_of others)) in
     let a = brackets-weight h args in
     let b = comma-weight comma others in
+    let w = word-weight h.at h.text (in_brackets h args (tokens_of args) ++ behind_comma comma others (tokens_of others)) in
     omega arith
 
 pub side-weight : (h : Head) (args : Sides) → weight_so_far (side_tokens h args) ≡ 1 + weight_so_far (tokens_of args)
-side-weight h args = let a = brackets-weight h args in omega arith
+side-weight h args = let a = brackets-weight h args in let w = word-weight h.at h.text (in_brackets h args (tokens_of args)) in omega arith
 
 module _ (variable : Occurrence → Option ℕ) (symbols : List Symbol) where
   term-light : (o : Occurrence) (args : List Term) → term_weight (term_from variable symbols o args) ≤ 1 + sum (map term_weight args)
@@ -56,4 +63,5 @@ module _ (variable : Occurrence → Option ℕ) (symbols : List Symbol) where
       let t = term-light (occurrence h args) (terms variable symbols args) in
       let a = terms-light args in
       let b = terms-light others in
+      let s = sum-cons (term_weight (term_from variable symbols (occurrence h args) (terms variable symbols args))) (map term_weight (terms variable symbols others)) in
       omega arith
