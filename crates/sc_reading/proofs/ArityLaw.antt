@@ -7,9 +7,9 @@ use Rattle.sc_reading.specs.declared.token.Token.TheVariants.{Word, Punctuation}
 use Rattle.sc_reading.specs.declared.token.Sign.TheVariants.{Open, Close, Comma}
 use Rattle.sc_reading.specs.declared.written.Occurrence.{Occurrence}
 use Rattle.sc_reading.specs.Measures.{open_commas, first_or_none, commas_behind}
-use Rattle.sc_reading.proofs.Spelling.{Head, Sides, Empty, Entry, in_brackets, behind_comma, tokens_of, side_tokens, count, occurrence, occurrences}
+use Rattle.sc_reading.proofs.Spelling.{Head, Sides, Empty, Entry, in_brackets, behind_comma, tokens_of, side_tokens, count, occurrence, occurrences, side_of}
 
-open_commas-append : (commas : List ℕ) (xs ys : List Token) → open_commas commas (xs ++ ys) ≡ open_commas (open_commas commas xs) ys
+pub open_commas-append : (commas : List ℕ) (xs ys : List Token) → open_commas commas (xs ++ ys) ≡ open_commas (open_commas commas xs) ys
 open_commas-append commas [] ys = refl
 open_commas-append commas (x ∷ xs) ys = open_commas-append (commas_behind x commas) xs ys
 
@@ -32,13 +32,10 @@ SmallArity o = o.arity ≤ 8
 abbrev commas_then : ℕ → Sides → ℕ
 commas_then n f = n + (count f - 1)
 
-closed : (m n : ℕ) (ns : List ℕ) (c : ℕ) → open_commas (m ∷ n ∷ ns) (Punctuation c Close ∷ []) ≡ n ∷ ns
-closed m n ns c = refl
-
-brackets-commas : (h : Head) (args : Sides) (n : ℕ) (ns : List ℕ) → open_commas (0 ∷ n ∷ ns) (tokens_of args) ≡ commas_then 0 args ∷ n ∷ ns → open_commas (n ∷ ns) (in_brackets h args (tokens_of args)) ≡ n ∷ ns
-brackets-commas h Empty n ns e = refl
-brackets-commas h (Entry g args comma others) n ns e =
-    open_commas-append (0 ∷ n ∷ ns) (tokens_of (Entry g args comma others)) (Punctuation h.closing Close ∷ []) ∙ ap (λ commas. open_commas commas (Punctuation h.closing Close ∷ [])) e
+brackets-commas : (h : Head) (args : Sides) (commas : List ℕ) → open_commas (0 ∷ commas) (tokens_of args) ≡ commas_then 0 args ∷ commas → open_commas commas (in_brackets h args (tokens_of args)) ≡ commas
+brackets-commas h Empty commas e = refl
+brackets-commas h (Entry g args comma others) commas e =
+    open_commas-append (0 ∷ commas) (tokens_of (Entry g args comma others)) (Punctuation h.closing Close ∷ []) ∙ ap (λ commas. open_commas commas (Punctuation h.closing Close ∷ [])) e
 
 comma-commas : (at : ℕ) (others : Sides) (n : ℕ) (ns : List ℕ) → open_commas ((n + 1) ∷ ns) (tokens_of others) ≡ (commas_then (n + 1) others) ∷ ns
     → open_commas (n ∷ ns) (behind_comma at others (tokens_of others)) ≡ (n + (count others + 1 - 1)) ∷ ns
@@ -50,18 +47,18 @@ sides-commas Empty n ns = let k : n ≡ n + (0 - 1) = omega arith in ap (λ (n :
 sides-commas (Entry h args comma others) n ns =
     let behind = behind_comma comma others (tokens_of others) in
     open_commas-append (n ∷ ns) (in_brackets h args (tokens_of args)) behind
-    ∙ ap (λ (commas : List ℕ). open_commas commas behind) (brackets-commas h args n ns (sides-commas args 0 (n ∷ ns)))
+    ∙ ap (λ (commas : List ℕ). open_commas commas behind) (brackets-commas h args (n ∷ ns) (sides-commas args 0 (n ∷ ns)))
     ∙ comma-commas comma others n ns (sides-commas others (n + 1) ns)
 
-brackets-arity : (h : Head) (args : Sides) (n : ℕ) (ns : List ℕ) → FewCommas (n ∷ ns) (in_brackets h args (tokens_of args))
+brackets-arity : (h : Head) (args : Sides) (commas : List ℕ) → FewCommas commas (in_brackets h args (tokens_of args))
     → ((n : ℕ) (ns : List ℕ) → n ≤ 7 → FewCommas (n ∷ ns) (tokens_of args) → AllByRecursion SmallArity (occurrences args) × (n + count args ≤ 8))
     → AllByRecursion SmallArity (occurrences args) × (count args ≤ 8)
-brackets-arity h Empty n ns few ih = (tt, omega arith)
-brackets-arity h (Entry g args comma others) n ns few ih =
+brackets-arity h Empty commas few ih = (tt, omega arith)
+brackets-arity h (Entry g args comma others) commas few ih =
     let ts = tokens_of (Entry g args comma others) in
     let close = Punctuation h.closing Close ∷ [] in
-    let inner = few_front (0 ∷ n ∷ ns) ts close (few_back (n ∷ ns) (Punctuation h.opening Open ∷ []) (ts ++ close) few) in
-    let k = ih 0 (n ∷ ns) (omega arith) inner in
+    let inner = few_front (0 ∷ commas) ts close (few_back commas (Punctuation h.opening Open ∷ []) (ts ++ close) few) in
+    let k = ih 0 commas (omega arith) inner in
     let le = k.1 in
     (k.0, omega arith)
 
@@ -82,7 +79,17 @@ sides-arity (Entry h args comma others) n ns le few =
     let inner = in_brackets h args (tokens_of args) in
     let behind = behind_comma comma others (tokens_of others) in
     let rest = few_back (n ∷ ns) (Word h.at h.text ∷ []) (inner ++ behind) few in
-    let a = brackets-arity h args n ns (few_front (n ∷ ns) inner behind rest) (sides-arity args) in
+    let a = brackets-arity h args (n ∷ ns) (few_front (n ∷ ns) inner behind rest) (sides-arity args) in
     let b = comma-arity comma others n ns le
-        (subst (λ commas. FewCommas commas behind) (brackets-commas h args n ns (sides-commas args 0 (n ∷ ns))) (few_back (n ∷ ns) inner behind rest)) (sides-arity others) in
+        (subst (λ commas. FewCommas commas behind) (brackets-commas h args (n ∷ ns) (sides-commas args 0 (n ∷ ns))) (few_back (n ∷ ns) inner behind rest)) (sides-arity others) in
     ((a.1, all_join SmallArity (occurrences args) (occurrences others) a.0 b.0), b.1)
+
+-- ---- one side
+
+pub side-commas : (h : Head) (args : Sides) (commas : List ℕ) → open_commas commas (side_tokens h args) ≡ commas
+side-commas h args commas = brackets-commas h args commas (sides-commas args 0 commas)
+
+pub side-arity : (h : Head) (args : Sides) (commas : List ℕ) → FewCommas commas (side_tokens h args) → AllByRecursion SmallArity (side_of h args)
+side-arity h args commas few =
+    let a = brackets-arity h args commas (few_back commas (Word h.at h.text ∷ []) (in_brackets h args (tokens_of args)) few) (sides-arity args) in
+    (a.1, a.0)
