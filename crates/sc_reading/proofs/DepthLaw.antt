@@ -23,9 +23,9 @@ pub largest-cons : (x : ℕ) (xs : List ℕ) → largest (x ∷ xs) ≡ max x (l
 largest-cons x xs = let e = fold-max (max 0 x) xs in omega arith
 
 -- what tokens add to the level of those behind them: at least this much above a level
-record LevelsOf (around low : ℕ) (ts more : List Token) (depth : ℕ) : Type 0 where
-  deep : depth ≤ greatest_level around (ts ++ more) - low
-  behind : greatest_level around more ≤ greatest_level around (ts ++ more)
+pub record LevelsOf (around low : ℕ) (ts more : List Token) (depth : ℕ) : Type 0 where
+  pub deep : depth ≤ greatest_level around (ts ++ more) - low
+  pub behind : greatest_level around more ≤ greatest_level around (ts ++ more)
 
 in_brackets-levels : (around o c : ℕ) (ts more : List Token) (depth : ℕ) → depth ≤ greatest_level (around + 1) (ts ++ Punctuation c Close ∷ more) - (around + 1)
     → greatest_level (around + 1) (Punctuation c Close ∷ more) ≤ greatest_level (around + 1) (ts ++ Punctuation c Close ∷ more)
@@ -52,7 +52,7 @@ module _ (variable : Occurrence → Option ℕ) (symbols : List Symbol) where
     pub deep : depth_of f ≤ greatest_level around (tokens_of f ++ more) - around
     pub behind : greatest_level around more ≤ greatest_level around (tokens_of f ++ more)
 
-  bracket-levels : (around : ℕ) (h : Head) (args : Sides) (more : List Token) → ((around : ℕ) (more : List Token) → Levels around args more)
+  pub bracket-levels : (around : ℕ) (h : Head) (args : Sides) (more : List Token) → ((around : ℕ) (more : List Token) → Levels around args more)
       → LevelsOf around (around + 1) (in_brackets h args (tokens_of args)) more (depth_of args)
   bracket-levels around h Empty more ih = record { deep = omega arith; behind = omega arith }
   bracket-levels around h (Entry g args comma others) more ih =

@@ -1,6 +1,6 @@
 -- A clause's weight is at most the count over its tokens.
 use Rattle.std.proofs.Common.{◌≡◌, ◌∙◌, sym, ap, subst, refl, ℕ, ◌+◌, ◌≤◌, Bool, true, false, List, [], ◌∷◌, ◌++◌, map, sum, Option, Some, None, arith}
-use Rattle.std.specs.Prelude.{flat_map, count_by}
+use Rattle.std.specs.Prelude.{flat_map, count_by, cond}
 use Rattle.std.proofs.lemmas.List.Sums.{sum_by-append, sum_by-cons}
 use Rattle.sc_data.specs.declared.SymId.{SymId}
 use Rattle.sc_data.specs.declared.Term.{Term}
@@ -26,7 +26,10 @@ weight-append xs ys = sum_by-append _ xs ys
 word-weight : (at : ℕ) (text : List ℕ) (ts : List Token) → weight_so_far (Word at text ∷ ts) ≡ 1 + weight_so_far ts
 word-weight at text ts = sum_by-cons _ (Word at text) ts
 
-sum-cons : (n : ℕ) (ns : List ℕ) → sum (n ∷ ns) ≡ n + sum ns
+pub sign-weight : (t : Token) (ts : List Token) → has_weight t ≡ true → weight_so_far (t ∷ ts) ≡ 1 + weight_so_far ts
+sign-weight t ts e = sum_by-cons _ t ts ∙ ap (λ (b : Bool). cond b 1 0 + weight_so_far ts) e
+
+pub sum-cons : (n : ℕ) (ns : List ℕ) → sum (n ∷ ns) ≡ n + sum ns
 sum-cons n ns = sum_by-cons (λ n. n) n ns
 
 brackets-weight : (h : Head) (args : Sides) → weight_so_far (in_brackets h args (tokens_of args)) ≡ weight_so_far (tokens_of args)
@@ -37,7 +40,7 @@ comma-weight : (at : ℕ) (others : Sides) → weight_so_far (behind_comma at ot
 comma-weight at Empty = refl
 comma-weight at (Entry g args comma others) = refl
 
-sides-weight : (h : Head) (args : Sides) (comma : ℕ) (others : Sides) → weight_so_far (tokens_of (Entry h args comma others)) ≡ 1 + (weight_so_far (tokens_of args) + weight_so_far (tokens_of others))
+pub sides-weight : (h : Head) (args : Sides) (comma : ℕ) (others : Sides) → weight_so_far (tokens_of (Entry h args comma others)) ≡ 1 + (weight_so_far (tokens_of args) + weight_so_far (tokens_of others))
 sides-weight h args comma others =
     let s = weight-append (in_brackets h args (tokens_of args)) (behind_comma comma others (tokens_of others)) in
     let a = brackets-weight h args in
