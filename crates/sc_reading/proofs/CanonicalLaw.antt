@@ -61,7 +61,7 @@ module _ (order : List Occurrence) where
     alike : (x : Occurrence) → list_any (same_name x) before ≡ list_any (same_name x) front
     below : AllByRecursion (λ y. number order y < length front) before
 
-  old-number : (x : Occurrence) (before : List Occurrence) → list_any (same_name x) before ≡ true → list_any (nat_eq (number order x)) (map (number order) before) ≡ true
+  pub old-number : (x : Occurrence) (before : List Occurrence) → list_any (same_name x) before ≡ true → list_any (nat_eq (number order x)) (map (number order) before) ≡ true
   old-number x [] e = absurd cc
   old-number x (y ∷ ys) e = by (same_name x y) refl e (old-number x ys)
     where
