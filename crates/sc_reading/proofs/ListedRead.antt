@@ -66,7 +66,7 @@ first_token : (xs ys : List Token) → 1 ≤ length xs → (t : Token) × (ts : 
 first_token [] ys le = absurd (omega arith)
 first_token (x ∷ xs) ys le = (x, xs ++ ys, refl)
 
-has_tokens : (c : ClauseTree) → (t : Token) × (ts : List Token) × (clause_tokens c ≡ t ∷ ts)
+pub has_tokens : (c : ClauseTree) → (t : Token) × (ts : List Token) × (clause_tokens c ≡ t ∷ ts)
 has_tokens (Falsum at) = (Word at (codes "$F"), [], refl)
 has_tokens (Literals l bs) = first_token (literal_tokens l) (flat_map behind_bar bs) (literal_has_tokens l)
 
