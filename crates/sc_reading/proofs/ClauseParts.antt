@@ -1,16 +1,12 @@
 -- The literals of a clause as a list, each with the arguments of its atom.
-use Rattle.std.proofs.Common.{◌≡◌, ◌∙◌, sym, ap, refl, ℕ, Bool, true, false, List, [], ◌∷◌, ◌++◌, map, Option}
-use Rattle.std.specs.Prelude.{flat_map}
+use Rattle.std.proofs.Common.{◌≡◌, ◌∙◌, ap, refl, ℕ, List, [], ◌∷◌, map, Option}
 use Rattle.std.specs.List.{AllByRecursion}
-use Rattle.sc_data.specs.declared.Literal.{Literal}
 use Rattle.sc_term.specs.declared.symbol.Symbol.{Symbol}
-use Rattle.sc_reading.specs.declared.token.Token.{Token}
 use Rattle.sc_reading.specs.declared.written.Occurrence.{Occurrence}
 use Rattle.sc_reading.specs.declared.written.WrittenLiteral.{WrittenLiteral}
-use Rattle.sc_reading.specs.Syntax.{WrittenClause}
 use Rattle.sc_reading.specs.Numbering.{terms_of, literal_of}
 use Rattle.sc_reading.proofs.Spelling.{occurrences}
-use Rattle.sc_reading.proofs.ClauseSpelling.{Atom, Wrapping, Bare, Negative, Brackets, NegativeBrackets, LiteralTree, ClauseTree, Falsum, Literals, atom_written, wrapped, literal_written, clause_written, IsSpelt, IsSpeltClause}
+use Rattle.sc_reading.proofs.ClauseSpelling.{Wrapping, Bare, Negative, Brackets, NegativeBrackets, LiteralTree, ClauseTree, Falsum, Literals, atom_written, wrapped, literal_written, clause_written, IsSpelt, IsSpeltClause}
 use Rattle.sc_reading.proofs.Terms.{terms, terms_of-alone, sides_under, sides_under-arguments}
 
 abbrev pub literals_in : ClauseTree → List LiteralTree

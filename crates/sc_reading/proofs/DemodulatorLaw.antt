@@ -1,33 +1,27 @@
 -- A written clause that may stand in demodulators is, as a clause of terms, one that rewrites.
-use Rattle.std.proofs.Common.{◌≡◌, ◌∙◌, sym, ap, subst, refl, ℕ, ◌<◌, Bool, true, false, List, [], ◌∷◌, ◌++◌, map, length, cond, Option, Some, None, arith}
-use Rattle.std.specs.Prelude.{codes, not, ◌&&◌, ◌==◌, nat_eq, nat_lt, filter, slice_get, position, unwrap_or}
+use Rattle.std.proofs.Common.{◌≡◌, ◌∙◌, sym, ap, refl, ℕ, Bool, true, false, List, [], ◌∷◌, ◌++◌, map, Option, Some, None}
+use Rattle.std.specs.Prelude.{codes, not, ◌&&◌, nat_eq, filter}
 use Rattle.std.specs.List.{AllByRecursion, list_any, list_all}
 use Rattle.std.specs.Cmp.Lexicographic.{bytes_decides}
-use Rattle.std.proofs.lemmas.List.{append-nil}
 use Rattle.sc_data.specs.declared.SymId.{SymId}
-use Rattle.sc_data.specs.declared.Term.{Term}
 use Rattle.sc_data.specs.declared.Term.TheVariants.{Var, App}
-use Rattle.sc_data.specs.declared.Literal.{Literal}
-use Rattle.sc_data.specs.Term.{term_variables}
 use Rattle.sc_data.proofs.TermLaws.{fold-App}
 use Rattle.sc_term.specs.declared.symbol.Symbol.{Symbol}
 use Rattle.sc_term.specs.Symbol.{equality}
-use Rattle.sc_reading.specs.declared.token.Token.{Token}
 use Rattle.sc_reading.specs.declared.token.Token.TheVariants.{Word}
 use Rattle.sc_reading.specs.Token.{same_text, is_word}
 use Rattle.sc_reading.specs.declared.written.Occurrence.{Occurrence}
 use Rattle.sc_reading.specs.declared.written.WrittenLiteral.{WrittenLiteral}
-use Rattle.sc_reading.specs.Syntax.{WrittenClause}
 use Rattle.sc_reading.specs.Numbering.{is_variable, same_name, variable_order, function_at, symbol_number, terms_of, literal_of, number_in, clause_of}
 use Rattle.sc_reading.specs.ClauseGrammar.{equation_of}
-use Rattle.sc_reading.specs.Demodulator.{is_equation, left_side, right_side, is_one_variable, left_holds_right, is_demodulator}
+use Rattle.sc_reading.specs.Demodulator.{is_equation, left_side, is_one_variable, left_holds_right, is_demodulator}
 use Rattle.sc_reading.specs.WellFormed.{variable_step, is_variable_term, are_rewriting_sides, is_rewriting}
-use Rattle.sc_reading.proofs.Spelling.{Head, Sides, Empty, Entry, occurrence, occurrences, side_of, side_tokens}
-use Rattle.sc_reading.proofs.ClauseSpelling.{Equated, Atom, Plain, Equation, Wrapping, Bare, Negative, Brackets, NegativeBrackets, LiteralTree, ClauseTree, Falsum, Literals, atom_tokens, opening_tokens, closing_tokens, literal_tokens, clause_tokens, atom_written, wrapped, literal_written, clause_written}
+use Rattle.sc_reading.proofs.Spelling.{Head, Sides, occurrence, side_of}
+use Rattle.sc_reading.proofs.ClauseSpelling.{Equated, Atom, Plain, Equation, Wrapping, Bare, Negative, Brackets, NegativeBrackets, ClauseTree, Falsum, Literals, atom_tokens, opening_tokens, closing_tokens, literal_tokens, clause_tokens, atom_written, wrapped, clause_written}
 use Rattle.sc_reading.proofs.Terms.{term_from, terms, terms_of-alone, sides_under, sides_under-arguments}
-use Rattle.sc_reading.proofs.ClauseParts.{literal-args, literal-arguments, wrapped-arguments, wrapped-predicate}
+use Rattle.sc_reading.proofs.ClauseParts.{wrapped-predicate}
 use Rattle.sc_reading.proofs.FairTokens.{AreFair, fair_split}
-use Rattle.sc_reading.proofs.VariableNumbers.{number, IsPlaced, numbers_of, number_in-other, term-variables, terms-variables, variables-placed}
+use Rattle.sc_reading.proofs.VariableNumbers.{number, IsPlaced, number_in-other, term-variables, terms-variables, variables-placed}
 use Rattle.sc_reading.proofs.CanonicalLaw.{old-number}
 use Rattle.sc_reading.proofs.SidesOfEquation.{AreSides, sides_of_equation}
 use Rattle.sc_data.proofs.SubstitutionLaws.{all_split}
@@ -100,7 +94,7 @@ equation-case symbols positive q zeroth sides e =
     let first = both_true positive (is_equation l) rest.0 in
     let no_variable : is_variable (occurrence q.left_head q.left_args) ≡ false = sym (ap is_one_variable sides.left) ∙ not_true (is_one_variable (left_side l)) rest.1 in
     let holds : list_all (λ o. list_any (same_name o) (filter is_variable (side_of q.left_head q.left_args))) (filter is_variable (side_of q.right_head q.right_args)) ≡ true =
-        sym (λ i. list_all (λ o. list_any (same_name o) (filter is_variable (sides.left i))) (filter is_variable (sides.right i))) ∙ last.1 in
+    sym (λ i. list_all (λ o. list_any (same_name o) (filter is_variable (sides.left i))) (filter is_variable (sides.right i))) ∙ last.1 in
     let args = ap (terms_of (number_in order) symbols) (sides_under-arguments (Equation q)) ∙ terms_of-alone (number_in order) symbols (sides_under (Equation q)) in
     both (positive && nat_eq (symbol_number symbols equality).0 0) (are_rewriting_sides (terms_of (number_in order) symbols l.arguments))
     (both positive (nat_eq (symbol_number symbols equality).0 0) first.0 (ap (λ (f : SymId). nat_eq f.0 0) zeroth))

@@ -1,7 +1,7 @@
 -- The tokens of a text stand in order, and no word is `=`.
-use Rattle.std.proofs.Common.{◌≡◌, ◌∙◌, sym, ap, subst, refl, ℕ, ◌+◌, ◌<◌, ◌≤◌, Bool, true, false, List, [], ◌∷◌, ◌++◌, map, drop, arith}
-use Rattle.std.specs.Prelude.{codes, ◌||◌, ◌&&◌, not, ◌==◌, if◌then◌else◌}
-use Rattle.std.specs.List.{AllByRecursion, list_any, list_all}
+use Rattle.std.proofs.Common.{◌≡◌, sym, ap, subst, refl, ℕ, ◌+◌, ◌<◌, ◌≤◌, Bool, true, false, List, [], ◌∷◌, map, drop, arith}
+use Rattle.std.specs.Prelude.{codes, ◌&&◌, not, ◌==◌, if◌then◌else◌}
+use Rattle.std.specs.List.{AllByRecursion, list_any}
 use Rattle.std.proofs.lemmas.Bool.{eqb-true}
 use Rattle.sc_reading.specs.declared.token.Token.{Token}
 use Rattle.sc_reading.specs.declared.token.Token.TheVariants.{Word, Punctuation, Refused}
@@ -9,7 +9,7 @@ use Rattle.sc_reading.specs.declared.token.Sign.{Sign}
 use Rattle.sc_reading.specs.declared.token.Sign.TheVariants.{Unequal, Colon}
 use Rattle.sc_reading.specs.declared.fault.InputKind.TheVariants.{Unsupported}
 use Rattle.sc_reading.specs.Token.{at_of, same_text, is_word, is_sign}
-use Rattle.sc_reading.specs.Tokens.{is_white, is_word_byte, blanked, sign_of, single, with_word_byte, with_exclamation, begins, with_byte, tokens_from, with_dollars_refused, tokens_behind, tokens}
+use Rattle.sc_reading.specs.Tokens.{is_white, is_word_byte, blanked, sign_of, single, with_word_byte, with_exclamation, begins, with_byte, tokens_from, with_dollars_refused, tokens}
 use Rattle.sc_reading.specs.Reading.{without_colon, problem_tokens}
 use Rattle.sc_reading.proofs.FairTokens.{Ascend, AreFair}
 

@@ -1,12 +1,11 @@
 -- A clause that a list may hold is an input, as a clause of terms over the symbols.
-use Rattle.std.proofs.Common.{◌≡◌, ◌∙◌, sym, ap, subst, refl, ℕ, ◌≤◌, Bool, true, false, List, [], ◌∷◌, ◌++◌, map, length, Option, Some, None, arith}
-use Rattle.std.specs.Prelude.{◌&&◌, flat_map, IsTrue}
+use Rattle.std.proofs.Common.{◌≡◌, ◌∙◌, sym, ap, subst, refl, ℕ, ◌≤◌, Bool, true, false, List, [], ◌∷◌, map, length, None, arith}
+use Rattle.std.specs.Prelude.{◌&&◌, flat_map}
 use Rattle.std.specs.List.{AllByRecursion, list_all}
 use Rattle.std.proofs.lemmas.List.{append-nil}
 use Rattle.sc_data.specs.declared.Literal.{Literal}
-use Rattle.sc_data.specs.declared.Clause.{Clause}
 use Rattle.sc_data.specs.Term.{joined, term_variables}
-use Rattle.sc_data.specs.Clause.{weight, depth, variables, firsts, counting_from, IsCanonical}
+use Rattle.sc_data.specs.Clause.{weight, variables, firsts, IsCanonical}
 use Rattle.sc_term.specs.declared.symbol.Symbol.{Symbol}
 use Rattle.sc_reading.specs.declared.written.Occurrence.{Occurrence}
 use Rattle.sc_reading.specs.declared.written.WrittenLiteral.{WrittenLiteral}
@@ -65,9 +64,9 @@ clause-canonical symbols c =
     let e = written-literals c in
     let placed = subst (AllByRecursion (λ (l : WrittenLiteral). AllByRecursion (IsPlaced order) l.arguments)) e (variables-placed w) in
     let same : variables (clause_of symbols (clause_written c)) ≡ map (number (variable_order (clause_written c))) (variables_of (clause_written c)) =
-        ap (λ (w : WrittenClause). joined (map (λ (l : Literal). joined (map term_variables l.args)) (map (literal_of (number_in order) symbols) w))) e
-        ∙ clause-variables order symbols (literals_in c) placed
-        ∙ ap (λ (w : WrittenClause). numbers_of order (flat_map (λ (l : WrittenLiteral). l.arguments) w)) (sym e) in
+    ap (λ (w : WrittenClause). joined (map (λ (l : Literal). joined (map term_variables l.args)) (map (literal_of (number_in order) symbols) w))) e
+    ∙ clause-variables order symbols (literals_in c) placed
+    ∙ ap (λ (w : WrittenClause). numbers_of order (flat_map (λ (l : WrittenLiteral). l.arguments) w)) (sym e) in
     counts_itself (firsts (variables (clause_of symbols w))) (length (once same_name [] (variables_of w))) (ap firsts same ∙ firsts-numbers (variables_of w))
 
 -- ---- an input

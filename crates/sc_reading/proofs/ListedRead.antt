@@ -1,5 +1,5 @@
 -- The clauses of a list, where they are read and no limit is passed.
-use Rattle.std.proofs.Common.{◌≡◌, ◌∙◌, sym, ap, subst, refl, ℕ, zero, suc, ◌≤◌, Bool, true, false, List, [], ◌∷◌, ◌++◌, map, length, append_assoc, Option, Some, None, Ok, arith}
+use Rattle.std.proofs.Common.{◌≡◌, ◌∙◌, sym, ap, subst, refl, ℕ, zero, suc, ◌≤◌, Bool, true, false, List, [], ◌∷◌, ◌++◌, map, length, append_assoc, Some, Ok, arith}
 use Rattle.std.specs.Prelude.{codes, flat_map}
 use Rattle.std.specs.List.{AllByRecursion}
 use Rattle.std.proofs.lemmas.List.{append-nil}
@@ -8,15 +8,15 @@ use Rattle.sc_reading.specs.declared.token.Token.{Token}
 use Rattle.sc_reading.specs.declared.token.Token.TheVariants.{Word, Punctuation}
 use Rattle.sc_reading.specs.declared.token.Sign.TheVariants.{Stop}
 use Rattle.sc_reading.specs.Token.{is_sign, is_word}
-use Rattle.sc_reading.specs.Reader.{Read, ◌>>=◌, unexpected, next_is, the_sign, repeated}
+use Rattle.sc_reading.specs.Reader.{◌>>=◌, unexpected, next_is, the_sign, repeated}
 use Rattle.sc_data.proofs.SubstitutionLaws.{all_split}
 use Rattle.sc_reading.specs.Syntax.{WrittenClause}
 use Rattle.sc_reading.specs.ClauseGrammar.{clause}
 use Rattle.sc_reading.specs.ProblemGrammar.{ended_clause, next_is_word}
 use Rattle.sc_reading.specs.ProblemLimits.{problem_bounds, problem_fault_at}
-use Rattle.sc_reading.proofs.ClauseSpelling.{LiteralTree, ClauseTree, Falsum, Literals, literal_tokens, behind_bar, clause_tokens, clause_written, IsSpeltClause}
-use Rattle.sc_reading.proofs.Taken.{Gives, Sign-taken, both, same, sign_taken}
-use Rattle.sc_reading.proofs.ClausesRead.{ClauseRead, clause_read}
+use Rattle.sc_reading.proofs.ClauseSpelling.{ClauseTree, Falsum, Literals, literal_tokens, behind_bar, clause_tokens, clause_written, IsSpeltClause}
+use Rattle.sc_reading.proofs.Taken.{Gives, both, same, sign_taken}
+use Rattle.sc_reading.proofs.ClausesRead.{clause_read}
 use Rattle.sc_reading.proofs.ClausesBack.{literal_has_tokens}
 use Rattle.sc_reading.proofs.Unpassed.{unpassed_split}
 use Rattle.sc_reading.proofs.Standing.{HasNoStop, Stands}
@@ -77,7 +77,7 @@ one_holds earlier h before c stop left spelt e st u fair =
     let end = Punctuation stop Stop ∷ [] in
     let s = has_tokens c in
     let stands = clause_stands earlier h before s.0 s.1 stop st (subst HasNoStop s.2 (clause_no_stop c))
-        (subst (λ ts. next_is (is_word end_word) ((ts ++ Punctuation stop Stop ∷ []) ++ left) ≡ false) s.2 e) (subst (λ ts. IsUnpassed earlier (ts ++ Punctuation stop Stop ∷ [])) s.2 u) in
+    (subst (λ ts. next_is (is_word end_word) ((ts ++ Punctuation stop Stop ∷ []) ++ left) ≡ false) s.2 e) (subst (λ ts. IsUnpassed earlier (ts ++ Punctuation stop Stop ∷ [])) s.2 u) in
     record {
       admitted = record {
         spelt = spelt;

@@ -1,5 +1,5 @@
 -- Where a list is read and no limit is passed, each of its clauses keeps the limits.
-use Rattle.std.proofs.Common.{◌≡◌, ◌∙◌, sym, ap, subst, refl, ℕ, Bool, true, false, List, [], ◌∷◌, ◌++◌, map, length, append_assoc, Option, Some, None}
+use Rattle.std.proofs.Common.{◌≡◌, ◌∙◌, sym, ap, subst, refl, ℕ, List, [], ◌∷◌, ◌++◌, map, length, append_assoc, Some, None}
 use Rattle.std.specs.Prelude.{codes, if◌then◌else◌}
 use Rattle.std.specs.List.{AllByRecursion}
 use Rattle.sc_reading.specs.declared.settings.Home.{Home}
@@ -12,17 +12,16 @@ use Rattle.sc_reading.specs.Syntax.{WrittenClause}
 use Rattle.sc_reading.specs.Settings.{list_words, unsupported_lists}
 use Rattle.sc_reading.specs.ProblemGrammar.{Item, Listing, the_close, listing, ended_clause, next_is_word}
 use Rattle.sc_reading.specs.Position.{home_named, opened}
-use Rattle.sc_reading.specs.Problem.{home_of, listed}
+use Rattle.sc_reading.specs.Problem.{home_of}
 use Rattle.sc_reading.specs.ProblemLimits.{problem_bounds, problem_fault_at}
 use Rattle.sc_reading.proofs.ClauseSpelling.{ClauseTree, clause_tokens, clause_written}
 use Rattle.sc_reading.proofs.Taken.{Gives, both, same, sign_taken}
 use Rattle.sc_reading.proofs.Unpassed.{unpassed_split}
 use Rattle.sc_reading.proofs.Standing.{HasNoStop, Stands, stands_outside, stands_closed}
-use Rattle.sc_reading.proofs.FairTokens.{AreFair, fair_split}
-use Rattle.sc_reading.proofs.ClauseWithin.{IsUnpassed}
+use Rattle.sc_reading.proofs.FairTokens.{fair_split}
 use Rattle.sc_reading.proofs.ListedRead.{IsAdmitted, ClausesRead, clauses_read}
 use Rattle.sc_reading.proofs.ItemWords.{listed_taken, the_word_taken, close_taken, home_known}
-use Rattle.sc_reading.proofs.ItemsRead.{ItemHolds, ItemRead, Homed, as_tokens, as_written}
+use Rattle.sc_reading.proofs.ItemsRead.{ItemRead, Homed, as_tokens, as_written}
 
 at_home : Home → ClauseTree → Homed
 at_home h c = (h, c)
@@ -94,7 +93,7 @@ listing_read at text ts i left e g =
     let close = Punctuation q.closing Close ∷ [] in
     let r = clauses_read (length d.left) d.left f.value f.left f.first in
     let ends : f.left ≡ Word w.at (codes "end_of_list") ∷ Punctuation t.at Stop ∷ left =
-        w.tokens ∙ ap (λ us. Word w.at (codes "end_of_list") ∷ us) (t.tokens ∙ ap (λ us. Punctuation t.at Stop ∷ us) z.left) in
+    w.tokens ∙ ap (λ us. Word w.at (codes "end_of_list") ∷ us) (t.tokens ∙ ap (λ us. Punctuation t.at Stop ∷ us) z.left) in
     subst (λ i. ItemRead (Word at text ∷ ts) i left) z.value
     (listing_from (Word at text ∷ Punctuation o.at Open ∷ name ∷ close) q.stop w.at t.at c.value f.value (Word at text ∷ ts) d.left left
     (opened-list at text (Punctuation o.at Open) c.value close e (home_known c.value.text n.listed c.value.at)) (refl, (refl, (refl, (refl, tt))))

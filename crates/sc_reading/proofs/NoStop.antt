@@ -5,11 +5,10 @@ use Rattle.std.specs.List.{AllByRecursion}
 use Rattle.sc_data.proofs.SubstitutionLaws.{all_join}
 use Rattle.sc_reading.specs.declared.token.Token.{Token}
 use Rattle.sc_reading.specs.declared.token.Token.TheVariants.{Word, Punctuation}
-use Rattle.sc_reading.specs.declared.token.Sign.{Sign}
-use Rattle.sc_reading.specs.declared.token.Sign.TheVariants.{Open, Close, Comma, Stop, Bar, Minus, Equal, Unequal}
+use Rattle.sc_reading.specs.declared.token.Sign.TheVariants.{Open, Close, Comma, Stop, Bar, Minus}
 use Rattle.sc_reading.specs.Token.{is_sign}
 use Rattle.sc_reading.proofs.Spelling.{Head, Sides, Empty, Entry, in_brackets, behind_comma, tokens_of, side_tokens}
-use Rattle.sc_reading.proofs.ClauseSpelling.{Equated, Atom, Plain, Equation, Wrapping, Bare, Negative, Brackets, NegativeBrackets, LiteralTree, ClauseTree, Falsum, Literals, equal_sign, atom_tokens, opening_tokens, closing_tokens, literal_tokens, behind_bar, clause_tokens}
+use Rattle.sc_reading.proofs.ClauseSpelling.{Atom, Plain, Equation, Wrapping, Bare, Negative, Brackets, NegativeBrackets, LiteralTree, ClauseTree, Falsum, Literals, equal_sign, atom_tokens, opening_tokens, closing_tokens, literal_tokens, behind_bar, clause_tokens}
 use Rattle.sc_reading.proofs.Standing.{HasNoStop}
 
 pub record OfLiterals (P : Token → Type 0) : Type 0 where
@@ -31,9 +30,11 @@ module _ (P : Token → Type 0) (p : OfLiterals P) where
 
   pub sides_all : (f : Sides) → AllByRecursion P (tokens_of f)
   sides_all Empty = tt
-  sides_all (Entry h args comma others) =
-      (p.word h.at h.text, all_join P (in_brackets h args (tokens_of args)) (behind_comma comma others (tokens_of others))
-      (brackets_all h args (tokens_of args) (sides_all args)) (comma_all comma others (tokens_of others) (sides_all others)))
+  sides_all (Entry h args comma others) = (
+    p.word h.at h.text,
+    all_join P (in_brackets h args (tokens_of args)) (behind_comma comma others (tokens_of others))
+        (brackets_all h args (tokens_of args) (sides_all args)) (comma_all comma others (tokens_of others) (sides_all others)),
+  )
 
   pub side_all : (h : Head) (args : Sides) → AllByRecursion P (side_tokens h args)
   side_all h args = (p.word h.at h.text, brackets_all h args (tokens_of args) (sides_all args))
@@ -68,7 +69,6 @@ module _ (P : Token → Type 0) (p : OfLiterals P) where
   pub clause_all : ((at : ℕ) → P (Punctuation at Bar)) → (c : ClauseTree) → AllByRecursion P (clause_tokens c)
   clause_all bar (Falsum at) = (p.word at (codes "$F"), tt)
   clause_all bar (Literals l bs) = all_join P (literal_tokens l) (flat_map behind_bar bs) (literal_all l) (bars_all bar bs)
-
 
 not_stop : OfLiterals (λ t. is_sign Stop t ≡ false)
 not_stop = record { word = λ at text. refl; opening = λ at. refl; closing = λ at. refl; comma = λ at. refl; minus = λ at. refl; equal = λ b at. by b at }

@@ -1,5 +1,5 @@
 -- What stands in the list of several things once, where each stands first.
-use Rattle.std.proofs.Common.{◌≡◌, ◌∙◌, sym, ap, subst, refl, Bool, true, false, List, [], ◌∷◌, ◌++◌, map}
+use Rattle.std.proofs.Common.{◌≡◌, ◌∙◌, ap, refl, Bool, true, false, List, [], ◌∷◌}
 use Rattle.std.specs.Prelude.{◌||◌, if◌then◌else◌}
 use Rattle.std.specs.List.{AllByRecursion, IsDistinct, list_any}
 use Rattle.sc_reading.specs.Numbering.{once}
@@ -20,7 +20,6 @@ module _ {X : Type 0} (same : X → X → Bool) where
       by false k m = (h.0, m)
 
   -- ---- each is there
-
 
   right : (b : Bool) → (b || true) ≡ true
   right true = refl
@@ -48,8 +47,7 @@ module _ {X : Type 0} (same : X → X → Bool) where
             → AllByRecursion (There before (with_one b x before xs)) (x ∷ xs)
         by true e k m = (ap (λ (b : Bool). b || list_any (same x) (once same before xs)) e, k)
         by false e k m =
-            let found = once same (x ∷ before) xs in
-            (
+            let found = once same (x ∷ before) xs in (
               ap (λ (b : Bool). list_any (same x) before || (b || list_any (same x) found)) (itself x) ∙ right (list_any (same x) before),
               all_moved x before found xs m,
             )

@@ -1,22 +1,20 @@
 -- The terms of written sides are over the symbols.
-use Rattle.std.proofs.Common.{◌≡◌, ◌∙◌, sym, ap, subst, refl, ℕ, Bool, true, false, List, [], ◌∷◌, ◌++◌, map, length, Option, Some, None}
-use Rattle.std.specs.Prelude.{◌&&◌, IsTrue}
+use Rattle.std.proofs.Common.{◌≡◌, ◌∙◌, sym, ap, subst, refl, ℕ, Bool, true, false, List, map, length, Option, Some, None}
+use Rattle.std.specs.Prelude.{◌&&◌}
 use Rattle.std.specs.List.{AllByRecursion, list_all}
 use Rattle.std.proofs.lemmas.List.Folds.{list_all-map}
 use Rattle.std.proofs.lemmas.List.{length-map}
 use Rattle.sc_data.proofs.SubstitutionLaws.{all_split}
 use Rattle.sc_data.specs.declared.Term.{Term}
 use Rattle.sc_data.specs.declared.Term.TheVariants.{Var, App}
-use Rattle.sc_data.specs.declared.Literal.{Literal}
 use Rattle.sc_data.proofs.TermLaws.{fold-Var, fold-App}
 use Rattle.sc_term.specs.declared.symbol.Role.TheVariants.{Function, Predicate}
 use Rattle.sc_term.specs.declared.symbol.Symbol.{Symbol}
 use Rattle.sc_reading.specs.declared.written.Occurrence.{Occurrence}
-use Rattle.sc_reading.specs.declared.written.WrittenLiteral.{WrittenLiteral}
 use Rattle.sc_reading.specs.Numbering.{function_at, predicate_at, symbol_number, literal_of}
 use Rattle.sc_reading.specs.WellFormed.{is_used_as, over_step, term_is_over, literal_is_over}
-use Rattle.sc_reading.proofs.Spelling.{Head, Sides, Empty, Entry, count, occurrence, occurrences, side_of}
-use Rattle.sc_reading.proofs.ClauseSpelling.{Equated, Atom, Plain, Equation, LiteralTree, atom_written, literal_written}
+use Rattle.sc_reading.proofs.Spelling.{Head, Sides, Empty, Entry, count, occurrence, occurrences}
+use Rattle.sc_reading.proofs.ClauseSpelling.{Atom, Plain, Equation, LiteralTree, atom_written, literal_written}
 use Rattle.sc_reading.proofs.Terms.{term_from, terms, terms-length, sides_under}
 use Rattle.sc_reading.proofs.ClauseParts.{literal-args, literal-arguments, wrapped-predicate}
 use Rattle.sc_reading.proofs.SymbolNumbers.{IsListed, used_as}

@@ -1,5 +1,5 @@
 -- What a problem's items hold, where they are read and no limit is passed: the clauses as trees, with what each keeps.
-use Rattle.std.proofs.Common.{◌≡◌, ◌∙◌, sym, ap, subst, refl, ℕ, zero, suc, ◌+◌, ◌-◌, ◌≤◌, Bool, true, false, List, [], ◌∷◌, ◌++◌, map, take, length, length-append, append_assoc, Option, Some, None, Ok, ◌⊎◌, inl, inr, arith}
+use Rattle.std.proofs.Common.{◌≡◌, ◌∙◌, sym, ap, subst, refl, ℕ, zero, suc, ◌-◌, Bool, true, false, List, [], ◌∷◌, ◌++◌, map, take, length, length-append, append_assoc, None, Ok, arith}
 use Rattle.std.specs.Prelude.{codes, ◌||◌}
 use Rattle.std.specs.List.{AllByRecursion, list_any}
 use Rattle.std.specs.Cmp.Lexicographic.{bytes_decides}
@@ -10,10 +10,10 @@ use Rattle.sc_reading.specs.declared.settings.Home.{Home}
 use Rattle.sc_reading.specs.declared.token.Token.{Token}
 use Rattle.sc_reading.specs.declared.token.Token.TheVariants.{Word}
 use Rattle.sc_reading.specs.Token.{same_text}
-use Rattle.sc_reading.specs.Reader.{Read, Name, ◌>>=◌, unexpected, a_listed_name, repeated}
+use Rattle.sc_reading.specs.Reader.{◌>>=◌, unexpected, a_listed_name, repeated}
 use Rattle.sc_reading.specs.Settings.{item_words, unsupported_items}
 use Rattle.sc_reading.specs.ProblemGrammar.{Item, setting, assignment, listing, item_named, item, at_end, problem, at_proof_or_end, items}
-use Rattle.sc_reading.specs.Problem.{listed, listed_clauses}
+use Rattle.sc_reading.specs.Problem.{listed_clauses}
 use Rattle.sc_reading.specs.Faults.{first_passed, before}
 use Rattle.sc_reading.specs.ProblemLimits.{problem_bounds, problem_fault_at}
 use Rattle.sc_reading.proofs.Taken.{Gives, both, same}
@@ -23,7 +23,7 @@ use Rattle.sc_reading.proofs.FairTokens.{AreFair, fair_split}
 use Rattle.sc_reading.proofs.ClauseWithin.{IsUnpassed}
 use Rattle.sc_reading.proofs.ListedRead.{IsAdmitted}
 use Rattle.sc_reading.proofs.ItemWords.{listed_taken}
-use Rattle.sc_reading.proofs.ItemsRead.{NumberFits, Homed, as_tokens, as_written, ItemHolds, ItemRead, setting_read}
+use Rattle.sc_reading.proofs.ItemsRead.{NumberFits, Homed, as_tokens, as_written, ItemRead, setting_read}
 use Rattle.sc_reading.proofs.AssignmentRead.{assignment_read}
 use Rattle.sc_reading.proofs.ListingRead.{listing_read}
 

@@ -1,5 +1,5 @@
 -- Every problem that is read keeps what a problem keeps.
-use Rattle.std.proofs.Common.{◌≡◌, ◌∙◌, sym, ap, subst, refl, ℕ, ◌-◌, List, ◌++◌, length, take, drop, Option, Some, None, Result, Ok, Err}
+use Rattle.std.proofs.Common.{◌≡◌, ◌∙◌, sym, ap, subst, refl, ℕ, ◌-◌, List, length, take, drop, Option, Some, None, Result, Ok, Err}
 use Rattle.std.proofs.lemmas.List.{take-append-drop}
 use Rattle.sc_reading.specs.declared.fault.Place.{Place}
 use Rattle.sc_reading.specs.declared.token.Token.{Token}
@@ -12,7 +12,7 @@ use Rattle.sc_reading.specs.Reading.{problem_tokens, judged_items, problem_of, S
 use Rattle.sc_reading.specs.WellFormed.{IsProblem}
 use Rattle.sc_reading.proofs.FairTokens.{AreFair, fair_split}
 use Rattle.sc_reading.proofs.FairText.{problem_tokens_fair}
-use Rattle.sc_reading.proofs.ProblemRead.{AreSound, problem_sound, items_sound}
+use Rattle.sc_reading.proofs.ProblemRead.{problem_sound, items_sound}
 use Rattle.sc_reading.proofs.WellFormedLaw.{is_problem}
 
 -- ---- from the tokens

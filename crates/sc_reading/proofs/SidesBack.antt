@@ -1,16 +1,16 @@
 -- The tokens that spell a side are read as that side, whatever stands behind them that continues no side.
-use Rattle.std.proofs.Common.{◌≡◌, ◌∙◌, sym, ap, subst, refl, ℕ, zero, suc, ◌+◌, ◌≤◌, Bool, true, false, List, [], ◌∷◌, ◌++◌, length, append_assoc, Ok, Err, arith}
-use Rattle.std.specs.Prelude.{codes, flat_map}
-use Rattle.std.proofs.lemmas.List.{length-append, append-nil}
+use Rattle.std.proofs.Common.{◌≡◌, ◌∙◌, ap, refl, ℕ, zero, suc, ◌≤◌, Bool, true, false, List, [], ◌∷◌, ◌++◌, length, append_assoc, Ok, arith}
+use Rattle.std.specs.Prelude.{flat_map}
+use Rattle.std.proofs.lemmas.List.{length-append}
 use Rattle.sc_reading.specs.declared.token.Token.{Token}
-use Rattle.sc_reading.specs.declared.token.Token.TheVariants.{Word, Punctuation, Refused}
+use Rattle.sc_reading.specs.declared.token.Token.TheVariants.{Word, Punctuation}
 use Rattle.sc_reading.specs.declared.token.Sign.{Sign}
 use Rattle.sc_reading.specs.declared.token.Sign.TheVariants.{Open, Close, Comma}
-use Rattle.sc_reading.specs.Token.{is_sign, same_text}
-use Rattle.sc_reading.specs.Reader.{Read, Name, ◌>>=◌, unexpected, next_is, the_sign, a_name, separated}
+use Rattle.sc_reading.specs.Token.{is_sign}
+use Rattle.sc_reading.specs.Reader.{Read, Name, ◌>>=◌, unexpected, next_is, the_sign, separated}
 use Rattle.sc_reading.specs.Syntax.{Side}
 use Rattle.sc_reading.specs.ClauseGrammar.{bracketed, arguments, side_within, side}
-use Rattle.sc_reading.proofs.Spelling.{Head, Sides, Empty, Entry, in_brackets, behind_comma, tokens_of, side_tokens, count, occurrence, occurrences, side_of, IsName, AreNames}
+use Rattle.sc_reading.proofs.Spelling.{Head, Sides, Empty, Entry, in_brackets, behind_comma, tokens_of, side_tokens, count, occurrences, side_of, IsName, AreNames}
 use Rattle.sc_reading.proofs.Taken.{Gives}
 
 -- ---- each side by itself

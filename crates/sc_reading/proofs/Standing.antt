@@ -5,13 +5,12 @@ use Rattle.std.specs.List.{AllByRecursion}
 use Rattle.std.proofs.lemmas.List.{append-nil}
 use Rattle.sc_reading.specs.declared.settings.Home.{Home}
 use Rattle.sc_reading.specs.declared.token.Token.{Token}
-use Rattle.sc_reading.specs.declared.token.Token.TheVariants.{Word, Punctuation}
+use Rattle.sc_reading.specs.declared.token.Token.TheVariants.{Punctuation}
 use Rattle.sc_reading.specs.declared.token.Sign.TheVariants.{Stop}
 use Rattle.sc_reading.specs.Token.{is_sign}
-use Rattle.sc_reading.specs.Position.{Position, position, sentences, opened, closes, clauses_of, home_behind}
+use Rattle.sc_reading.specs.Position.{position, sentences, opened, closes, clauses_of, home_behind}
 use Rattle.sc_reading.specs.ProblemLimits.{problem_bounds, symbols_told, demodulators_told}
 use Rattle.sc_reading.proofs.OneMore.{sentences-stop, sentences-other, home_behind-one_more}
-use Rattle.sc_reading.proofs.Unpassed.{IsClear}
 
 -- no full stop among them
 abbrev pub HasNoStop : List Token → Type 0
@@ -109,6 +108,6 @@ standing_ended earlier s at h cs st n e =
     let all = sentences-ended earlier s at st.before st.cut n in
     let home = home_behind-one_more None st.before s ∙ ap (λ home. next_home home s) st.home_is ∙ ap (home_if h) e in
     let clauses : clauses_of None (st.before ++ s ∷ []) ≡ cs ++ (h, s) ∷ [] =
-        clauses_of-one_more None st.before s ∙ (λ i. st.clauses i ++ clause_at (st.home_is i) s) ∙ ap (λ (b : Bool). cs ++ elim b [ true ↦ [] | false ↦ (h, s) ∷ [] ]) e in
+    clauses_of-one_more None st.before s ∙ (λ i. st.clauses i ++ clause_at (st.home_is i) s) ∙ ap (λ (b : Bool). cs ++ elim b [ true ↦ [] | false ↦ (h, s) ∷ [] ]) e in
     (λ i. record { clauses = clauses_of None ((all i).0); home = home_behind None ((all i).0); sentence = (all i).1 })
     ∙ (λ i. record { clauses = clauses i; home = home i; sentence = [] })

@@ -1,5 +1,5 @@
 -- What the tokens were where a production of one token gives a value.
-use Rattle.std.proofs.Common.{◌≡◌, ◌∙◌, sym, ap, subst, refl, ℕ, Bool, true, false, List, [], ◌∷◌, Ok, Err, eqb, ◌⊎◌, inl, inr}
+use Rattle.std.proofs.Common.{◌≡◌, ◌∙◌, sym, ap, refl, ℕ, Bool, true, false, List, [], ◌∷◌, Ok, Err, ◌⊎◌, inl, inr}
 use Rattle.std.specs.Prelude.{codes, Option, Some, slice_get}
 use Rattle.std.proofs.lemmas.Bool.{eqb-true}
 use Rattle.sc_reading.specs.declared.token.Token.{Token}

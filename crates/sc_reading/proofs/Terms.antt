@@ -1,16 +1,14 @@
 -- The terms that are made of the occurrences of a tree are those of the tree.
-use Rattle.std.proofs.Common.{◌≡◌, ◌∙◌, sym, ap, subst, refl, ℕ, ◌+◌, List, [], ◌∷◌, ◌++◌, map, take, drop, length, append_assoc, Option, Some, None, arith}
+use Rattle.std.proofs.Common.{◌≡◌, ◌∙◌, sym, ap, refl, ℕ, List, [], ◌∷◌, ◌++◌, take, drop, length, append_assoc, Option, Some, None, arith}
 use Rattle.std.proofs.lemmas.List.{append-nil}
 use Rattle.std.proofs.Math.Seq.{take-append_seam, drop-append_seam}
 use Rattle.sc_data.specs.declared.Term.{Term}
 use Rattle.sc_data.specs.declared.Term.TheVariants.{Var, App}
-use Rattle.sc_data.specs.declared.Literal.{Literal}
 use Rattle.sc_term.specs.declared.symbol.Symbol.{Symbol}
 use Rattle.sc_reading.specs.declared.written.Occurrence.{Occurrence}
-use Rattle.sc_reading.specs.declared.written.WrittenLiteral.{WrittenLiteral}
-use Rattle.sc_reading.specs.Numbering.{function_at, symbol_number, term_at, terms_of, literal_of}
-use Rattle.sc_reading.proofs.Spelling.{Head, Sides, Empty, Entry, count, occurrence, occurrences, side_of}
-use Rattle.sc_reading.proofs.ClauseSpelling.{Equated, Atom, Plain, Equation, atom_written}
+use Rattle.sc_reading.specs.Numbering.{function_at, symbol_number, term_at, terms_of}
+use Rattle.sc_reading.proofs.Spelling.{Sides, Empty, Entry, count, occurrence, occurrences}
+use Rattle.sc_reading.proofs.ClauseSpelling.{Atom, Plain, Equation, atom_written}
 
 module _ (variable : Occurrence → Option ℕ) (symbols : List Symbol) where
   abbrev pub term_from : Occurrence → List Term → Term
@@ -30,7 +28,7 @@ module _ (variable : Occurrence → Option ℕ) (symbols : List Symbol) where
       let o = occurrence h args in
       let behind = terms others ++ terms_of variable symbols os in
       let later : terms_of variable symbols ((occurrences args ++ occurrences others) ++ os) ≡ terms args ++ behind =
-          ap (terms_of variable symbols) (append_assoc (occurrences args) (occurrences others) os) ∙ terms_of-occurrences args (occurrences others ++ os) ∙ ap (λ ts. terms args ++ ts) (terms_of-occurrences others os) in
+      ap (terms_of variable symbols) (append_assoc (occurrences args) (occurrences others) os) ∙ terms_of-occurrences args (occurrences others ++ os) ∙ ap (λ ts. terms args ++ ts) (terms_of-occurrences others os) in
       let front : take (count args) (terms args ++ behind) ≡ terms args = ap (λ n. take n (terms args ++ behind)) (sym (terms-length args)) ∙ take-append_seam (terms args) behind in
       let back : drop (count args) (terms args ++ behind) ≡ behind = ap (λ n. drop n (terms args ++ behind)) (sym (terms-length args)) ∙ drop-append_seam (terms args) behind in
       (λ i. term_at variable symbols o (later i) ∷ drop (count args) (later i)) ∙ (λ i. term_from o (front i) ∷ back i)

@@ -6,8 +6,8 @@ use Rattle.sc_reading.specs.declared.fault.InputKind.TheVariants.{OutOfRange, To
 use Rattle.sc_reading.specs.declared.fault.Place.{Place}
 use Rattle.sc_reading.specs.declared.token.Token.{Token}
 use Rattle.sc_reading.specs.Position.{Position, position, clause_so_far}
-use Rattle.sc_reading.specs.Faults.{Limit, place, passed, passed_behind}
-use Rattle.sc_reading.specs.ClauseLimits.{Bounds, arity_told, weight_told, depth_told}
+use Rattle.sc_reading.specs.Faults.{place, passed, passed_behind}
+use Rattle.sc_reading.specs.ClauseLimits.{arity_told, weight_told, depth_told}
 use Rattle.sc_reading.specs.ProblemLimits.{problem_limits, problem_bounds, problem_fault_at, number_told, clauses_told, symbols_told, demodulators_told}
 
 or_else : Option Place → Option Place → Option Place
@@ -26,8 +26,7 @@ module _ (fault_at : List Token → Option Place) where
   unpassed_split earlier [] ys e = (refl, ap (λ (us : List Token). passed_behind fault_at us ys) (append-nil earlier) ∙ e)
   unpassed_split earlier (x ∷ xs) ys e =
       let b = both_none (fault_at (earlier ++ x ∷ [])) (passed_behind fault_at (earlier ++ x ∷ []) (xs ++ ys)) e in
-      let s = unpassed_split (earlier ++ x ∷ []) xs ys b.1 in
-      (
+      let s = unpassed_split (earlier ++ x ∷ []) xs ys b.1 in (
         ap (λ (o : Option Place). or_else o (passed_behind fault_at (earlier ++ x ∷ []) xs)) b.0 ∙ s.0,
         ap (λ (us : List Token). passed_behind fault_at us ys) (sym (append_assoc earlier (x ∷ []) xs)) ∙ s.1,
       )

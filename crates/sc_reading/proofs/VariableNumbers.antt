@@ -10,14 +10,13 @@ use Rattle.sc_data.specs.declared.Term.{Term}
 use Rattle.sc_data.specs.declared.Term.TheVariants.{Var, App}
 use Rattle.sc_data.specs.declared.Literal.{Literal}
 use Rattle.sc_data.specs.Term.{joined, term_variables}
-use Rattle.sc_data.specs.Clause.{variables}
 use Rattle.sc_data.proofs.TermSteps.{variables-Var, variables-App}
 use Rattle.sc_term.specs.declared.symbol.Symbol.{Symbol}
 use Rattle.sc_reading.specs.Tokens.{begins}
 use Rattle.sc_reading.specs.declared.written.Occurrence.{Occurrence}
 use Rattle.sc_reading.specs.declared.written.WrittenLiteral.{WrittenLiteral}
 use Rattle.sc_reading.specs.Syntax.{WrittenClause}
-use Rattle.sc_reading.specs.Numbering.{once, number_of, is_variable, variables_of, same_name, variable_order, function_at, symbol_number, literal_of, number_in}
+use Rattle.sc_reading.specs.Numbering.{number_of, is_variable, variables_of, same_name, variable_order, function_at, symbol_number, literal_of, number_in}
 use Rattle.sc_reading.proofs.Spelling.{Head, Sides, Empty, Entry, count, occurrence, occurrences}
 use Rattle.sc_reading.proofs.ClauseSpelling.{LiteralTree, literal_written}
 use Rattle.sc_reading.proofs.Terms.{term_from, terms, sides_under}
