@@ -18,7 +18,7 @@ use Rattle.sc_reading.specs.ProblemLimits.{range_of}
 use Rattle.sc_reading.proofs.ClauseSpelling.{ClauseTree, clause_tokens, clause_written}
 use Rattle.sc_reading.proofs.Taken.{Gives, both, same, sign_taken}
 use Rattle.sc_reading.proofs.Standing.{HasNoStop, Stands, stands_outside}
-use Rattle.sc_reading.proofs.FairTokens.{AreFair}
+use Rattle.sc_reading.proofs.Tokenized.{AreTokenized}
 use Rattle.sc_reading.proofs.ClauseWithin.{IsUnpassed}
 use Rattle.sc_reading.proofs.ListedRead.{IsAdmitted}
 use Rattle.sc_reading.proofs.ItemWords.{listed_taken, close_taken}
@@ -51,7 +51,7 @@ pub record ItemHolds (earlier ts : List Token) (before : List (Home × List Toke
 pub record ItemRead (ts : List Token) (i : Item) (left : List Token) : Type 0 where
   pub taken : List Token
   pub tokens : ts ≡ taken ++ left
-  pub holds : (earlier : List Token) (before : List (Home × List Token)) → Stands earlier None before → IsUnpassed earlier taken → AreFair taken → ItemHolds earlier taken before i
+  pub holds : (earlier : List Token) (before : List (Home × List Token)) → Stands earlier None before → IsUnpassed earlier taken → AreTokenized taken → ItemHolds earlier taken before i
 
 -- ---- settings
 
@@ -62,7 +62,7 @@ one_sentence s stop i ts left l n o e fits =
     record {
       taken = s ++ Punctuation stop Stop ∷ [];
       tokens = e;
-      holds = λ earlier before st u fair.
+      holds = λ earlier before st u tokenized.
           record {
             trees = [];
             written = l;

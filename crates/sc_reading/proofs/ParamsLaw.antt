@@ -13,13 +13,10 @@ use Rattle.sc_reading.specs.Problem.{last_value, params_of}
 use Rattle.sc_reading.specs.ProblemLimits.{range_of}
 use Rattle.sc_reading.specs.WellFormed.{IsBetween, AreParams}
 use Rattle.sc_reading.proofs.ItemsRead.{NumberFits}
-
-both_true : (a b : Bool) → (a && b) ≡ true → (a ≡ true) × (b ≡ true)
-both_true true b e = (refl, e)
-both_true false b e = absurd cc
+use Rattle.sc_reading.proofs.Booleans.{parts_hold}
 
 between : (low high : ℕ) (v : ℤ) → (int_le (pos low) v && int_le v (pos high)) ≡ true → IsBetween low high (nat_abs v)
-between low high (pos k) e = let s = both_true _ _ e in (leb-true low k s.0, leb-true k high s.1)
+between low high (pos k) e = let s = parts_hold _ _ e in (leb-true low k s.0, leb-true k high s.1)
 between low high (negsuc k) e = absurd cc
 
 -- the range of a parameter, wherever its name stands

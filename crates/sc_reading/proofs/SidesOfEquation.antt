@@ -15,7 +15,7 @@ use Rattle.sc_reading.specs.declared.written.WrittenLiteral.{WrittenLiteral}
 use Rattle.sc_reading.specs.Demodulator.{left_side, right_side}
 use Rattle.sc_reading.proofs.Spelling.{Head, Sides, Empty, Entry, in_brackets, behind_comma, tokens_of, side_tokens, occurrences, side_of}
 use Rattle.sc_reading.proofs.ClauseSpelling.{Equated, Equation, equal_sign, atom_tokens, atom_written}
-use Rattle.sc_reading.proofs.FairTokens.{Ascend, ascend_split}
+use Rattle.sc_reading.proofs.Tokenized.{Ascend, ascend_split}
 use Rattle.sc_reading.proofs.SymbolNumbers.{less}
 
 -- ---- what holds of the places of tokens holds of the places of names

@@ -14,6 +14,7 @@ use Rattle.sc_reading.specs.Numbering.{number_of, Found, is_variable, function_a
 use Rattle.sc_reading.specs.WellFormed.{is_used_as}
 use Rattle.sc_reading.proofs.Once.{once-holds}
 use Rattle.sc_reading.proofs.SignatureLaw.{same_found}
+use Rattle.sc_reading.proofs.Booleans.{both_hold}
 
 -- ---- the first that passes
 
@@ -45,12 +46,7 @@ symbol_found symbols s e = found symbols s (number_of (same_symbol s) symbols) (
 pub used_as : (symbols : List Symbol) (s : Symbol) (n : ℕ) → IsListed symbols s → s.arity ≡ n → is_used_as symbols s.role (symbol_number symbols s) n ≡ true
 used_as symbols s n e k =
     ap (λ (o : Option Symbol). elim o [ None ↦ false | Some t ↦ role_number t.role == role_number s.role && t.arity == n ]) (symbol_found symbols s e)
-    ∙ both (role_number s.role == role_number s.role) (s.arity == n) (eq-eqb _ (role_number s.role) refl) (eq-eqb s.arity n k)
-  where
-    both : (a b : Bool) → a ≡ true → b ≡ true → (a && b) ≡ true
-    both true true e k = refl
-    both true false e k = k
-    both false b e k = e
+    ∙ both_hold (role_number s.role == role_number s.role) (s.arity == n) (eq-eqb _ (role_number s.role) refl) (eq-eqb s.arity n k)
 
 -- ---- the symbols of the clauses are listed
 

@@ -105,7 +105,7 @@ fits symbols c h z e = by c.0 e
 
     by : (home : Home) → is_bad_demodulator (home, clause_tokens c.1) ≡ false → FitsHome (home, clause_of symbols (clause_written c.1))
     by Demodulators e =
-        demodulator-rewrites symbols c.1 z h.fair (ap is_demodulator (sym (written_back c.1 h.spelt)) ∙ is_true (is_demodulator (written (clause_tokens c.1))) e)
+        demodulator-rewrites symbols c.1 z h.tokenized (ap is_demodulator (sym (written_back c.1 h.spelt)) ∙ is_true (is_demodulator (written (clause_tokens c.1))) e)
     by Usable e = tt
     by Sos e = tt
     by Passive e = tt
