@@ -1,10 +1,10 @@
 -- What the first bytes of a text do to its tokens.
-use Rattle.std.proofs.Common.{◌≡◌, refl, ap, sym, ◌∙◌, subst, ℕ, suc, ◌+◌, ◌-◌, ◌≤◌, ◌<◌, Bool, true, false, not, ◌&&◌, ◌||◌, List, [], ◌∷◌, ◌++◌, length, map, ◌==◌, cond, ◌⊎◌, inl, inr, arith, get_or, drop, length-append, length-drop, add-one, append_assoc, append-nil, Option, Some, None}
+use Rattle.std.proofs.Common.{◌≡◌, refl, ap, sym, ◌∙◌, subst, ℕ, suc, ◌+◌, ◌-◌, ◌≤◌, ◌<◌, Bool, true, false, not, ◌&&◌, ◌||◌, List, [], ◌∷◌, ◌++◌, length, map, ◌==◌, cond, ◌⊎◌, inl, inr, arith, get_or, drop, length-append, length-drop, add-one, append_assoc, append-nil, Some, None}
 use Rattle.std.proofs.Math.Seq.{drop-cons, drop-length}
-use Rattle.std.specs.List.{list_all, list_any}
+use Rattle.std.specs.List.{list_all}
 use Rattle.std.proofs.lemmas.Bool.{eqb-true}
 use Rattle.sc_reading.specs.declared.token.Token.{Token}
-use Rattle.sc_reading.specs.declared.token.Token.TheVariants.{Word, Punctuation, Refused}
+use Rattle.sc_reading.specs.declared.token.Token.TheVariants.{Word, Punctuation}
 use Rattle.sc_reading.specs.declared.token.Sign.{Sign}
 use Rattle.sc_reading.specs.declared.token.Sign.TheVariants.{Unequal}
 use Rattle.sc_reading.specs.Tokens.{is_one_of, is_white, is_word_byte, blanked, begins, with_byte, with_word_byte, with_exclamation, tokens_from, with_dollars_refused, single, sign_of, tokens_behind}

@@ -30,7 +30,9 @@ fn scan_with(alloc: Global, has_colon: bool, bytes: &[u8], from: usize) -> Mem<I
 {
     let total = bytes.len();
     let (_, mut rest) = bytes.split_at(from);
-    let mut tokens = Items::new(alloc);
+    // Room for a token a byte, which is the most there can be: only what is filled takes up memory, and nothing is
+    // moved when it grows.
+    let mut tokens = Items::from_vec(Vec::with_capacity(alloc, rest.len())?);
     while !rest.is_empty() {
         let (found, behind) = next_token(alloc, total, rest)?;
         if let Some(token) = found {
