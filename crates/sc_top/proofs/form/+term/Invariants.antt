@@ -1,4 +1,4 @@
-use Rattle.std.proofs.Common.{ℕ, ◌+◌, ◌*◌}
+use Rattle.std.proofs.Common.{◌+◌, ◌*◌}
 use Rattle.sc_top.proofs.form.+term.Given as goal
 
 abbrev pub decreases-read_arguments : goal.decreases-read_arguments
