@@ -7,7 +7,11 @@
 #![tactic(auto)]
 
 mod clause;
+mod item;
 mod literal;
+mod number;
 mod side;
+mod words;
 
 pub use clause::read_clause;
+pub use item::{Item, Name, read_item, read_items, read_problem};
