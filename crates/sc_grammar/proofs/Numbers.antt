@@ -1,10 +1,10 @@
 -- Numerals read digit by digit, of which only those up to a bound matter.
-use Rattle.std.proofs.Common.{◌≡◌, ◌∙◌, sym, ap, refl, ℕ, suc, ◌+◌, ◌*◌, ◌<◌, ◌≤◌, min, Bool, true, false, ◌&&◌, List, [], ◌∷◌, length, get_or, drop, drop-cons, Some, None, Option, ℤ, pos, negsuc, neg_ℤ, arith, add-one}
+use Rattle.std.proofs.Common.{◌≡◌, ◌∙◌, sym, ap, refl, ℕ, ◌+◌, ◌*◌, ◌<◌, min, Bool, true, false, ◌&&◌, List, [], ◌∷◌, length, get_or, drop, drop-cons, Some, None, Option, arith, add-one}
 use Rattle.std.specs.List.{list_all}
 use Rattle.std.specs.Char.{digit_value}
 use Rattle.std.specs.Str.Parse.{digits_value_after}
 use Rattle.sc_reading.specs.Tokens.{is_digit}
-use Rattle.sc_grammar.specs.Items.{beyond, clipped, numeral_after}
+use Rattle.sc_grammar.specs.Items.{beyond, numeral_after}
 
 -- a bound on what was read already changes nothing
 pub digits_value_after-min : (bound n : ℕ) (ds : List ℕ) → min (digits_value_after 10 (min n bound) ds) bound ≡ min (digits_value_after 10 n ds) bound

@@ -1,11 +1,11 @@
 -- Items as code answers them. A number of more than ten digits stands as the least such number of its sign.
-use Rattle.std.specs.Prelude.{ℕ, suc, ◌+◌, min, Bool, true, false, List, map, Option, Some, None, Ok, ℤ, pos, negsuc, neg_ℤ}
+use Rattle.std.specs.Prelude.{ℕ, suc, min, Bool, true, false, List, map, Option, Some, None, Ok, ℤ, pos, negsuc, neg_ℤ}
 use Rattle.std.specs.List.{list_all}
 use Rattle.std.specs.Str.Parse.{digits_value_after}
 use Rattle.sc_reading.specs.Tokens.{is_digit}
 use Rattle.sc_reading.specs.declared.token.Token.{Token}
 use Rattle.sc_reading.specs.Reader.{Read, ◌>>=◌, Name}
-use Rattle.sc_reading.specs.ProblemGrammar.{Item, Setting, Assignment, Listing, at_end, at_proof_or_end}
+use Rattle.sc_reading.specs.ProblemGrammar.{Item, Setting, Assignment, Listing, item, at_end, at_proof_or_end}
 use Rattle.sc_grammar.specs.declared.item.Name.{Name as Named}
 use Rattle.sc_grammar.specs.declared.item.Item.{Item as Told}
 use Rattle.sc_grammar.specs.declared.item.Item.TheVariants.{Setting as TheSetting, Assignment as TheAssignment, Listing as TheListing}
@@ -48,6 +48,9 @@ with_clipped (Listing n clauses) = Listing n clauses
 
 abbrev pub clipped_item : Read Item → Read Item
 clipped_item read = read >>= λ r. Ok (with_clipped r.0, r.1)
+
+abbrev pub told_item : List Token → Read Item
+told_item tokens = clipped_item (item tokens)
 
 abbrev pub clipped_items : Read (List Item) → Read (List Item)
 clipped_items read = read >>= λ r. Ok (map with_clipped r.0, r.1)

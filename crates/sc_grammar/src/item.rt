@@ -4,7 +4,7 @@ ghost use Rattle.std.specs.Prelude.{◌≡◌, ◌++◌, [], ◌∷◌, length, 
 ghost use Rattle.sc_reading.specs.Reader as spec;
 ghost use Rattle.sc_reading.specs.ProblemGrammar as of;
 ghost use Rattle.sc_scan.specs.Told.{Gives};
-ghost use Rattle.sc_grammar.specs.Items.{item_of, items_of, clipped_item, clipped_items, ends_at};
+ghost use Rattle.sc_grammar.specs.Items.{item_of, items_of, clipped_item, clipped_items, told_item, ends_at};
 
 use crate::clause::read_clause;
 use crate::number::read_number;
@@ -40,7 +40,10 @@ fn the_close(tokens: &[Token]) -> Result<&[Token], Stop>
 fn name_at(alloc: Global, at: u64, text: &Items<u8>) -> Result<Name, AllocError>
     ensures { IfOk result (λ name. name ≡ record { at = at; text = text.now }) }
 {
-    Ok(Name { at, text: Items::from_slice(alloc, text.as_slice())? })
+    Ok(Name {
+        at,
+        text: Items::from_slice(alloc, text.as_slice())?,
+    })
 }
 
 /// What stands behind `set` or `clear`.
@@ -73,21 +76,30 @@ fn ended_clause(alloc: Global, tokens: &[Token]) -> Result<(Items<WrittenLiteral
     Ok((clause, rest))
 }
 
+fn at_end_of_list(tokens: &[Token]) -> bool
+    ensures { result ≡ of.next_is_word (codes "end_of_list") tokens.now }
+{
+    next_is_word(END_OF_LIST.as_bytes(), tokens)
+}
+
 /// Clauses up to `end_of_list`.
-fn clauses(alloc: Global, tokens: &[Token]) -> Result<(Items<Items<WrittenLiteral>>, &[Token]), Stop>
+fn clauses(
+    alloc: Global,
+    tokens: &[Token],
+) -> Result<(Items<Items<WrittenLiteral>>, &[Token]), Stop>
     ensures { Gives (λ x. (x.0, x.1.now)) result (spec.repeated (of.next_is_word (codes "end_of_list")) of.ended_clause (length tokens.now) tokens.now) }
 {
     let mut front = Items::new(alloc);
     let mut rest = tokens;
     for _ in 0..tokens.len() {
-        if next_is_word(END_OF_LIST.as_bytes(), rest) {
+        if at_end_of_list(rest) {
             return Ok((front, rest));
         }
         let (clause, after) = ended_clause(alloc, rest)?;
         front.push(clause)?;
         rest = after;
     }
-    if next_is_word(END_OF_LIST.as_bytes(), rest) {
+    if at_end_of_list(rest) {
         Ok((front, rest))
     } else {
         Err(stop_at(rest))
@@ -107,7 +119,11 @@ fn listing(alloc: Global, tokens: &[Token]) -> Result<(Item, &[Token]), Stop>
     Ok((Item::Listing(name_at(alloc, at, text)?, clauses), rest))
 }
 
-fn item_named<'a>(alloc: Global, word: &[u8], tokens: &'a [Token]) -> Result<(Item, &'a [Token]), Stop>
+fn item_named<'a>(
+    alloc: Global,
+    word: &[u8],
+    tokens: &'a [Token],
+) -> Result<(Item, &'a [Token]), Stop>
     ensures { Gives (λ x. (item_of x.0, x.1.now)) result (clipped_item (of.item_named word.now tokens.now)) }
 {
     if word == SET.as_bytes() {
@@ -123,7 +139,7 @@ fn item_named<'a>(alloc: Global, word: &[u8], tokens: &'a [Token]) -> Result<(It
 
 /// An item, and the tokens behind it.
 pub fn read_item(alloc: Global, tokens: &[Token]) -> Result<(Item, &[Token]), Stop>
-    ensures { Gives (λ x. (item_of x.0, x.1.now)) result (clipped_item (of.item tokens.now)) }
+    ensures { Gives (λ x. (item_of x.0, x.1.now)) result (told_item tokens.now) }
 {
     let (_, word, rest) = a_listed_name(Vocabulary::Items, tokens)?;
     item_named(alloc, word.as_slice(), rest)
@@ -135,12 +151,17 @@ fn ends(before_section: bool, tokens: &[Token]) -> bool
 {
     match tokens {
         [] => true,
-        [t, ..] => before_section && (is_word(b"proof".as_slice(), t) || is_word(b"run".as_slice(), t)),
+        [t, ..] => before_section
+            && (is_word(b"proof".as_slice(), t) || is_word(b"run".as_slice(), t)),
     }
 }
 
-fn items_until(alloc: Global, before_section: bool, tokens: &[Token]) -> Result<(Items<Item>, &[Token]), Stop>
-    ensures { Gives (λ x. (items_of x.0, x.1.now)) result (clipped_items (spec.repeated (ends_at before_section) of.item (length tokens.now) tokens.now)) }
+fn items_until(
+    alloc: Global,
+    before_section: bool,
+    tokens: &[Token],
+) -> Result<(Items<Item>, &[Token]), Stop>
+    ensures { Gives (λ x. (items_of x.0, x.1.now)) result (spec.repeated (ends_at before_section) told_item (length tokens.now) tokens.now) }
 {
     let mut front = Items::new(alloc);
     let mut rest = tokens;

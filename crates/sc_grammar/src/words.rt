@@ -24,7 +24,14 @@ pub const END_OF_LIST: &str = "end_of_list";
 const ITEMS: [&str; 4] = [SET, CLEAR, ASSIGN, LIST];
 
 const UNSUPPORTED_ITEMS: [&str; 8] = [
-    "formula_list", "weight_list", "op", "lex", "skolem", "include", "make_evaluable", "special_unary",
+    "formula_list",
+    "weight_list",
+    "op",
+    "lex",
+    "skolem",
+    "include",
+    "make_evaluable",
+    "special_unary",
 ];
 
 const LISTS: [&str; 4] = ["usable", "sos", "passive", "demodulators"];
@@ -33,25 +40,72 @@ const UNSUPPORTED_LISTS: [&str; 3] = ["hints", "hints2", "hot"];
 
 // First those with an effect, then those that are accepted without one.
 const FLAGS: [&str; 19] = [
-    "binary_res", "factor", "hyper_res", "ur_res", "para_from", "para_into", "unit_deletion", "dynamic_demod",
-    "back_demod", "for_sub", "back_sub", "print_given", "print_kept", "print_proofs", "print_lists_at_end",
-    "print_back_sub", "print_back_demod", "print_new_demod", "very_verbose",
+    "binary_res",
+    "factor",
+    "hyper_res",
+    "ur_res",
+    "para_from",
+    "para_into",
+    "unit_deletion",
+    "dynamic_demod",
+    "back_demod",
+    "for_sub",
+    "back_sub",
+    "print_given",
+    "print_kept",
+    "print_proofs",
+    "print_lists_at_end",
+    "print_back_sub",
+    "print_back_demod",
+    "print_new_demod",
+    "very_verbose",
 ];
 
 const UNSUPPORTED_FLAGS: [&str; 22] = [
-    "auto", "auto2", "knuth_bendix", "order_eq", "lrpo", "prolog_style_variables", "process_input", "sos_queue",
-    "sos_stack", "input_sos_first", "interactive_given", "neg_hyper_res", "para_all", "para_from_left",
-    "para_from_right", "para_from_vars", "para_into_left", "para_into_right", "para_into_vars",
-    "dynamic_demod_all", "demod_out_in", "eq_units_both_ways",
+    "auto",
+    "auto2",
+    "knuth_bendix",
+    "order_eq",
+    "lrpo",
+    "prolog_style_variables",
+    "process_input",
+    "sos_queue",
+    "sos_stack",
+    "input_sos_first",
+    "interactive_given",
+    "neg_hyper_res",
+    "para_all",
+    "para_from_left",
+    "para_from_right",
+    "para_from_vars",
+    "para_into_left",
+    "para_into_right",
+    "para_into_vars",
+    "dynamic_demod_all",
+    "demod_out_in",
+    "eq_units_both_ways",
 ];
 
 // First those with an effect, then those that are accepted without one.
 const PARAMETERS: [&str; 10] = [
-    "pick_given_ratio", "max_weight", "max_literals", "max_given", "max_kept", "demod_limit", "max_proofs",
-    "max_seconds", "max_mem", "stats_level",
+    "pick_given_ratio",
+    "max_weight",
+    "max_literals",
+    "max_given",
+    "max_kept",
+    "demod_limit",
+    "max_proofs",
+    "max_seconds",
+    "max_mem",
+    "stats_level",
 ];
 
-const UNSUPPORTED_PARAMETERS: [&str; 4] = ["max_distinct_vars", "change_limit_after", "new_max_weight", "neg_weight"];
+const UNSUPPORTED_PARAMETERS: [&str; 4] = [
+    "max_distinct_vars",
+    "change_limit_after",
+    "new_max_weight",
+    "neg_weight",
+];
 
 /// What a word names.
 #[derive(Clone, Copy, Debug, PartialEq, Eq)]
