@@ -21,9 +21,9 @@ pub const LIST: &str = "list";
 
 pub const END_OF_LIST: &str = "end_of_list";
 
-const ITEMS: [&str; 4] = [SET, CLEAR, ASSIGN, LIST];
+const ITEMS: &[&str] = &[SET, CLEAR, ASSIGN, LIST];
 
-const UNSUPPORTED_ITEMS: [&str; 8] = [
+const UNSUPPORTED_ITEMS: &[&str] = &[
     "formula_list",
     "weight_list",
     "op",
@@ -34,12 +34,12 @@ const UNSUPPORTED_ITEMS: [&str; 8] = [
     "special_unary",
 ];
 
-const LISTS: [&str; 4] = ["usable", "sos", "passive", "demodulators"];
+const LISTS: &[&str] = &["usable", "sos", "passive", "demodulators"];
 
-const UNSUPPORTED_LISTS: [&str; 3] = ["hints", "hints2", "hot"];
+const UNSUPPORTED_LISTS: &[&str] = &["hints", "hints2", "hot"];
 
 // First those with an effect, then those that are accepted without one.
-const FLAGS: [&str; 19] = [
+const FLAGS: &[&str] = &[
     "binary_res",
     "factor",
     "hyper_res",
@@ -61,7 +61,7 @@ const FLAGS: [&str; 19] = [
     "very_verbose",
 ];
 
-const UNSUPPORTED_FLAGS: [&str; 22] = [
+const UNSUPPORTED_FLAGS: &[&str] = &[
     "auto",
     "auto2",
     "knuth_bendix",
@@ -87,7 +87,7 @@ const UNSUPPORTED_FLAGS: [&str; 22] = [
 ];
 
 // First those with an effect, then those that are accepted without one.
-const PARAMETERS: [&str; 10] = [
+const PARAMETERS: &[&str] = &[
     "pick_given_ratio",
     "max_weight",
     "max_literals",
@@ -100,7 +100,7 @@ const PARAMETERS: [&str; 10] = [
     "stats_level",
 ];
 
-const UNSUPPORTED_PARAMETERS: [&str; 4] = [
+const UNSUPPORTED_PARAMETERS: &[&str] = &[
     "max_distinct_vars",
     "change_limit_after",
     "new_max_weight",
@@ -131,22 +131,10 @@ fn is_known(vocabulary: Vocabulary, word: &[u8]) -> bool
     ensures { result ≡ list_any (same_text word.now) (known_words vocabulary) }
 {
     match vocabulary {
-        Vocabulary::Items => {
-            let words: [&str; 4] = ITEMS;
-            is_any(words.as_slice(), word)
-        }
-        Vocabulary::Lists => {
-            let words: [&str; 4] = LISTS;
-            is_any(words.as_slice(), word)
-        }
-        Vocabulary::Flags => {
-            let words: [&str; 19] = FLAGS;
-            is_any(words.as_slice(), word)
-        }
-        Vocabulary::Parameters => {
-            let words: [&str; 10] = PARAMETERS;
-            is_any(words.as_slice(), word)
-        }
+        Vocabulary::Items => is_any(ITEMS, word),
+        Vocabulary::Lists => is_any(LISTS, word),
+        Vocabulary::Flags => is_any(FLAGS, word),
+        Vocabulary::Parameters => is_any(PARAMETERS, word),
     }
 }
 
@@ -154,22 +142,10 @@ fn is_unsupported(vocabulary: Vocabulary, word: &[u8]) -> bool
     ensures { result ≡ list_any (same_text word.now) (unsupported_words vocabulary) }
 {
     match vocabulary {
-        Vocabulary::Items => {
-            let words: [&str; 8] = UNSUPPORTED_ITEMS;
-            is_any(words.as_slice(), word)
-        }
-        Vocabulary::Lists => {
-            let words: [&str; 3] = UNSUPPORTED_LISTS;
-            is_any(words.as_slice(), word)
-        }
-        Vocabulary::Flags => {
-            let words: [&str; 22] = UNSUPPORTED_FLAGS;
-            is_any(words.as_slice(), word)
-        }
-        Vocabulary::Parameters => {
-            let words: [&str; 4] = UNSUPPORTED_PARAMETERS;
-            is_any(words.as_slice(), word)
-        }
+        Vocabulary::Items => is_any(UNSUPPORTED_ITEMS, word),
+        Vocabulary::Lists => is_any(UNSUPPORTED_LISTS, word),
+        Vocabulary::Flags => is_any(UNSUPPORTED_FLAGS, word),
+        Vocabulary::Parameters => is_any(UNSUPPORTED_PARAMETERS, word),
     }
 }
 
