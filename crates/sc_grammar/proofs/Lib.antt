@@ -1,3 +1,4 @@
+pub mod Clipping
 pub mod Lists
 pub mod Numbers
 pub mod Sides
