@@ -1,0 +1,12 @@
+//! The first limit that a problem passes: a number outside its range, an argument too many, a clause too many, too
+//! heavy or too deep, a symbol too many, a clause that is no demodulator.
+#![tactic(auto)]
+
+mod bounds;
+mod count;
+mod demodulator;
+mod position;
+mod range;
+
+pub use count::{AtomCount, ClauseCount, LiteralCount, Part};
+pub use demodulator::is_demodulator;
