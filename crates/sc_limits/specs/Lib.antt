@@ -1,1 +1,5 @@
 pub mod Counted
+pub mod Symbols
+pub mod Positions
+pub mod Limits
+pub mod Reached

@@ -304,15 +304,47 @@ impl ClauseCount {
         }
     }
 
-    fn depth(&self) -> usize
-        requires { self.now.literal.atom.level < usize.MAX }
-        ensures { (tokens : List Token) → Counted tokens self.now → result ≡ spec.depth_so_far tokens }
+    fn is_too_deep(&self) -> bool
+        ensures { (tokens : List Token) → Counted tokens self.now → result ≡ nat_lt 256 (spec.depth_so_far tokens) }
     {
         let atom = self.literal.atom;
         if atom.equality {
-            atom.level + 1
+            MOST_DEPTH <= atom.level
         } else {
-            atom.level
+            MOST_DEPTH < atom.level
+        }
+    }
+
+    /// Where the `,` before an argument too many stands.
+    pub fn arity_told(&self, clause: &[Token]) -> Option<u64>
+        ensures { Counted clause.now self.now → result ≡ limit.arity_told problem_bounds clause.now }
+    {
+        if self.has_ninth_argument() {
+            last_at(clause)
+        } else {
+            None
+        }
+    }
+
+    /// Where the word, `=` or `!=` stands that makes the weight too great.
+    pub fn weight_told(&self, clause: &[Token]) -> Option<u64>
+        ensures { Counted clause.now self.now → result ≡ limit.weight_told problem_bounds clause.now }
+    {
+        if MOST_WEIGHT < self.weight {
+            last_at(clause)
+        } else {
+            None
+        }
+    }
+
+    /// Where the token stands that makes the atom too deep.
+    pub fn depth_told(&self, clause: &[Token]) -> Option<u64>
+        ensures { Counted clause.now self.now → result ≡ limit.depth_told problem_bounds clause.now }
+    {
+        if self.is_too_deep() {
+            last_at(clause)
+        } else {
+            None
         }
     }
 }

@@ -5,8 +5,13 @@
 mod bounds;
 mod count;
 mod demodulator;
+mod limits;
 mod position;
 mod range;
+mod reached;
+mod symbols;
 
 pub use count::{AtomCount, ClauseCount, LiteralCount, Part};
 pub use demodulator::is_demodulator;
+pub use reached::Reached;
+pub use symbols::{add_clause, Symbols, WrittenSymbol};
