@@ -4,4 +4,4 @@ pub mod Counts
 pub mod Once
 pub mod Finds
 pub mod OnePosition
-pub mod Passed
+pub mod Places

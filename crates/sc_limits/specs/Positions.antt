@@ -21,3 +21,7 @@ clause_ended (Some home) sentence = elim (closes sentence) [ true ↦ [] | false
 -- behind a full stop
 abbrev pub behind_stop : Position → Position
 behind_stop p = record { clauses = p.clauses ++ clause_ended p.home p.sentence; home = next_home p.home p.sentence; sentence = [] }
+
+-- behind the full stop of a clause
+abbrev pub behind_clause : Position → Home → List Token → Position
+behind_clause p home sentence = record { clauses = p.clauses ++ (home, sentence) ∷ []; home = Some home; sentence = [] }

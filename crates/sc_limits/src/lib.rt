@@ -5,6 +5,7 @@
 mod bounds;
 mod count;
 mod demodulator;
+mod first;
 mod limits;
 mod position;
 mod range;
@@ -13,5 +14,6 @@ mod symbols;
 
 pub use count::{AtomCount, ClauseCount, LiteralCount, Part};
 pub use demodulator::is_demodulator;
+pub use first::{Passed, first_limit};
 pub use reached::Reached;
 pub use symbols::{add_clause, Symbols, WrittenSymbol};

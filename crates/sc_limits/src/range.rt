@@ -39,3 +39,17 @@ fn capped_value(digits: &[u8]) -> u64
     }
     value
 }
+
+/// The numbers that a parameter may have.
+#[derive(Clone, Copy, Debug)]
+pub struct Range {
+    pub low: i64,
+    pub high: i64,
+}
+
+/// Where the number begins that is outside the range of its parameter, in the sentence of an item so far.
+pub fn out_of_range(sentence: &[Token]) -> Option<u64>
+    ensures { result ≡ spec.out_of_range sentence.now }
+{
+    None
+}

@@ -18,7 +18,7 @@ use Rattle.sc_reading.specs.ProblemLimits.{out_of_range, written, is_bad_demodul
 use Rattle.sc_limits.specs.declared.reached.Reached.{Reached}
 use Rattle.sc_limits.specs.declared.symbols.WrittenSymbol.{WrittenSymbol}
 use Rattle.sc_limits.specs.Symbols.{as_written, same_found, Keeps, one_too_many, KeepsOrTells, FindsMore}
-use Rattle.sc_limits.specs.Positions.{with_token, next_home, clause_ended, behind_stop}
+use Rattle.sc_limits.specs.Positions.{with_token, next_home, clause_ended, behind_stop, behind_clause}
 use Rattle.sc_limits.specs.Limits.{clauses_told_behind, fault_in_clause}
 use Rattle.sc_limits.specs.Reached.{found_so_far, Follows, Reaches}
 
@@ -119,9 +119,6 @@ told-one_more f None true x e = refl
 told-one_more f None false x e = refl
 
 -- ---- a whole clause more
-
-abbrev behind_clause : Position → Home → List Token → Position
-behind_clause p home s = position_of (p.clauses ++ (home, s) ∷ []) (Some home) []
 
 abbrev ended_by : Bool → Home → List Token → Clauses
 ended_by b home s = elim b [ true ↦ [] | false ↦ (home, s) ∷ [] ]
