@@ -5,3 +5,5 @@ pub mod Once
 pub mod Finds
 pub mod OnePosition
 pub mod Places
+pub mod Steps
+pub mod Numbers

@@ -1,7 +1,7 @@
 -- What a position is with one token more, and the first fault with one token more.
-use Rattle.std.proofs.Common.{◌≡◌, ◌∙◌, sym, ap, refl, ℕ, Bool, true, false, List, [], ◌∷◌, ◌++◌, append_assoc}
+use Rattle.std.proofs.Common.{◌≡◌, ◌∙◌, sym, ap, refl, ℕ, Bool, true, false, List, [], ◌∷◌, ◌++◌, take, drop, append_assoc}
 use Rattle.std.specs.Prelude.{Option, Some, None, find, cond, if◌then◌else◌}
-use Rattle.std.proofs.lemmas.List.{append-nil}
+use Rattle.std.proofs.lemmas.List.{append-nil, take-append-drop}
 use Rattle.sc_reading.specs.declared.fault.Place.{Place}
 use Rattle.sc_reading.specs.declared.settings.Home.{Home}
 use Rattle.sc_reading.specs.declared.token.Token.{Token}
@@ -63,3 +63,16 @@ passed_behind-one_more fault_at earlier (u ∷ us) t e =
 -- where none of the tokens passes a limit, the next decides
 pub first_passed-one_more : (fault_at : List Token → Option Place) (tokens : List Token) (t : Token) → first_passed fault_at tokens ≡ None → first_passed fault_at (tokens ++ t ∷ []) ≡ fault_at (tokens ++ t ∷ [])
 first_passed-one_more fault_at tokens t e = passed_behind-one_more fault_at [] tokens t e
+
+passed_behind-append : (fault_at : List Token → Option Place) (earlier tokens more : List Token) (p : Place) → passed_behind fault_at earlier tokens ≡ Some p → passed_behind fault_at earlier (tokens ++ more) ≡ Some p
+passed_behind-append fault_at earlier [] more p e = absurd cc
+passed_behind-append fault_at earlier (t ∷ ts) more p e = by (fault_at (earlier ++ t ∷ [])) e (passed_behind-append fault_at (earlier ++ t ∷ []) ts more p)
+  where
+    by : (o : Option Place) → or_else o (passed_behind fault_at (earlier ++ t ∷ []) ts) ≡ Some p → (passed_behind fault_at (earlier ++ t ∷ []) ts ≡ Some p → passed_behind fault_at (earlier ++ t ∷ []) (ts ++ more) ≡ Some p)
+        → or_else o (passed_behind fault_at (earlier ++ t ∷ []) (ts ++ more)) ≡ Some p
+    by (Some q) e h = e
+    by None e h = h e
+
+-- a limit that the first tokens pass is the first that all pass
+pub passed_by_first : (fault_at : List Token → Option Place) (n : ℕ) (tokens : List Token) (p : Place) → first_passed fault_at (take n tokens) ≡ Some p → first_passed fault_at tokens ≡ Some p
+passed_by_first fault_at n tokens p e = ap (first_passed fault_at) (sym (take-append-drop n tokens)) ∙ passed_behind-append fault_at [] (take n tokens) (drop n tokens) p e

@@ -1,4 +1,5 @@
 pub mod Counted
+pub mod Numbers
 pub mod Symbols
 pub mod Positions
 pub mod Limits

@@ -1,6 +1,6 @@
 //! The first limit that the tokens of a problem pass.
 
-ghost use Rattle.std.specs.Prelude.{◌≡◌, ◌<◌, ◌+◌, ◌↔◌, length, take, Ok, Some, None, IfOk, IfSome};
+ghost use Rattle.std.specs.Prelude.{◌≡◌, ◌<◌, ◌+◌, length, take, Some, None, IfOk, IfSome, option_map};
 ghost use Rattle.sc_reading.specs.Faults.{first_passed};
 ghost use Rattle.sc_reading.specs.ProblemLimits.{problem_bounds, problem_fault_at};
 
@@ -24,7 +24,7 @@ pub struct Passed {
 /// # Errors
 /// Want of memory.
 pub fn first_limit(alloc: Global, tokens: &[Token]) -> Mem<Option<Passed>>
-    ensures none { result ≡ Ok None → first_passed (problem_fault_at problem_bounds) tokens.now ≡ None }
+    ensures told { IfOk result (λ passed. first_passed (problem_fault_at problem_bounds) tokens.now ≡ option_map (λ p. p.place) passed) }
     ensures before { IfOk result (λ passed. IfSome passed (λ p. first_passed (problem_fault_at problem_bounds) (take p.token tokens.now) ≡ None)) }
     ensures passed { IfOk result (λ passed. IfSome passed (λ p. first_passed (problem_fault_at problem_bounds) (take (p.token + 1) tokens.now) ≡ Some p.place)) }
     ensures within { IfOk result (λ passed. IfSome passed (λ p. p.token < length tokens.now)) }
