@@ -1,0 +1,5 @@
+pub mod OnceLaws
+pub mod SymbolNumbers
+pub mod StackLaws
+pub mod NameLaws
+pub mod LoopLaws
