@@ -3,3 +3,4 @@ pub mod SymbolNumbers
 pub mod StackLaws
 pub mod NameLaws
 pub mod LoopLaws
+pub mod JoinLaws

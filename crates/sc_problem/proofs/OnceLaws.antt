@@ -70,7 +70,7 @@ pub record Turn {A X : Type 0} (f : List A → List X) (all : List A) (i : ℕ) 
   pub item : a ≡ get_or all i a
   pub gives : f (a ∷ []) ≡ ys
 
-turned : {A X : Type 0} (f : List A → List X) (all : List A) (i : ℕ) (a : A) (ys : List X) → Turn f all i a ys → f (take (i + 1) all) ≡ f (take i all) ++ ys
+pub turned : {A X : Type 0} (f : List A → List X) (all : List A) (i : ℕ) (a : A) (ys : List X) → Turn f all i a ys → f (take (i + 1) all) ≡ f (take i all) ++ ys
 turned f all i a ys t =
     ap f (take_more all i a t.within ∙ ap (λ x. take i all ++ x ∷ []) (sym t.item)) ∙ t.joins (take i all) (a ∷ []) ∙ ap (λ l. f (take i all) ++ l) t.gives
 

@@ -1,23 +1,35 @@
 -- Symbols and variables by their names.
-use Rattle.std.specs.Prelude.{ℕ, ◌≤◌, ◌^◌, List, map, filter, length, Option, None, position, flat_map, if◌then◌else◌}
+use Rattle.std.specs.Prelude.{ℕ, ◌≤◌, ◌^◌, not, List, ◌∷◌, map, filter, length, Option, None, position, flat_map, if◌then◌else◌}
+use Rattle.std.specs.List.{AllByRecursion}
 use Rattle.sc_term.specs.declared.symbol.Role.{Role}
+use Rattle.sc_term.specs.declared.symbol.Role.TheVariants.{Function, Predicate}
 use Rattle.sc_term.specs.declared.symbol.Symbol.{Symbol}
+use Rattle.sc_term.specs.Symbol.{same_symbol}
 use Rattle.sc_reading.specs.declared.written.Occurrence.{Occurrence}
 use Rattle.sc_reading.specs.declared.written.WrittenLiteral.{WrittenLiteral}
 use Rattle.sc_reading.specs.Token.{same_text}
 use Rattle.sc_reading.specs.Syntax.{WrittenClause}
-use Rattle.sc_reading.specs.Numbering.{is_variable, variable_order, found_in}
+use Rattle.sc_reading.specs.Numbering.{is_variable, variable_order}
+use Rattle.sc_problem.specs.Once.{with_each}
 
 -- the symbol of a name in a role
 abbrev pub symbol_at : Role → Occurrence → Symbol
 symbol_at role o = record { name = o.name; arity = o.arity; role = role }
 
--- the symbols of a literal in the order of the text, each as often as it stands there
+-- symbols in the order of the text, each as often as it stands there
+abbrev pub argument_symbols : List Occurrence → List Symbol
+argument_symbols os = map (symbol_at Function) (filter (λ o. not (is_variable o)) os)
+
 abbrev pub literal_symbols : WrittenLiteral → List Symbol
-literal_symbols l = map (λ f. f.symbol) (found_in l)
+literal_symbols l = symbol_at Predicate l.predicate ∷ argument_symbols l.arguments
 
 abbrev pub clause_symbols : WrittenClause → List Symbol
 clause_symbols c = flat_map literal_symbols c
+
+-- Symbols may join others where there is room for all, and none has more than 8 arguments.
+pub record MayJoin (symbols more : List Symbol) : Type 0 where
+  pub room : length (with_each same_symbol symbols more) ≤ 4096
+  pub arities : AllByRecursion (λ (s : Symbol). s.arity ≤ 8) more
 
 -- the names that are variables, each as often as it stands there
 abbrev pub names_of_variables : List Occurrence → List (List ℕ)
