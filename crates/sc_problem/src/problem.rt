@@ -23,10 +23,14 @@ pub struct Problem {
 }
 
 impl Model for Problem {
+    ghost use Rattle.std.specs.Coded.{codes};
+    ghost use Rattle.sc_data.specs.contracts.Term as term;
     ghost use Rattle.sc_reading.specs.Problem.{Stated};
     ghost use Rattle.sc_reading.specs.WellFormed.{IsProblem};
 
     ghost Value = { Stated };
+
+    ghost coded = { Prim.hlevel (codes, term.the_row.coded) };
 
     ghost view = { λ p. record { symbols = p.sig; inputs = p.inputs; homes = p.homes; flags = p.flags; params = p.params } };
 
