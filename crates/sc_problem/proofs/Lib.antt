@@ -4,3 +4,4 @@ pub mod StackLaws
 pub mod NameLaws
 pub mod LoopLaws
 pub mod JoinLaws
+pub mod WeightLaws
