@@ -5,3 +5,4 @@ pub mod NameLaws
 pub mod LoopLaws
 pub mod JoinLaws
 pub mod WeightLaws
+pub mod SettingLaws
