@@ -1,0 +1,8 @@
+//! Finite interpretations by tables, and what is true in them.
+#![tactic(auto)]
+
+mod evaluate;
+mod table;
+
+pub use sqlite_items::Items as List;
+pub use table::Table;
