@@ -1,0 +1,3 @@
+pub mod Assignments
+pub mod Agreement
+pub mod Width

@@ -1,2 +1,3 @@
 pub mod Structure
+pub mod Assignments
 pub mod Marks
