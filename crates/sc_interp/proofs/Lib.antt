@@ -1,3 +1,5 @@
 pub mod Assignments
 pub mod Agreement
 pub mod Width
+pub mod Symbols
+pub mod Structures

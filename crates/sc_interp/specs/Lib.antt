@@ -1,3 +1,4 @@
 pub mod Structure
 pub mod Assignments
+pub mod Tables
 pub mod Marks

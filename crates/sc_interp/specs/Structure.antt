@@ -1,6 +1,6 @@
 -- Tables, and their reading as an interpretation whose elements are the numbers below their size.
-use Rattle.std.specs.Prelude.{◌≡◌, ◌<◌, ◌≤◌, ℕ, ◌+◌, ◌-◌, ◌*◌, ◌^◌, List, Option, Some, None, IsSomeAnd, All, map, nat_eq, length, replicate, drop, sum, slice_index, slice_set}
-use Rattle.std.specs.List.{fold}
+use Rattle.std.specs.Prelude.{◌≡◌, ◌<◌, ◌≤◌, ℕ, ◌+◌, ◌-◌, ◌*◌, ◌^◌, List, Option, Some, None, IsSomeAnd, All, map, nat_eq, length, replicate, drop, slice_index, slice_set}
+use Rattle.std.specs.List.{fold, sum_by}
 use Rattle.sc_data.specs.declared.SymId.{SymId}
 use Rattle.sc_data.specs.declared.Clause.{Clause}
 use Rattle.sc_data.specs.Numbering.{numbered}
@@ -56,14 +56,15 @@ HasPlace t s place = IsSomeAnd (numbered t.tables s.0) (λ table. place < length
 abbrev pub MayHold : Structure → SymId → ℕ → Type 0
 MayHold t s value = IsSomeAnd (numbered t.tables s.0) (λ table. value < values_below table.role t.size)
 
--- the structure with another entry of the symbol at a place
-abbrev pub with_entry_of : Structure → ℕ → Option Table → ℕ → ℕ → Structure
-with_entry_of t at_table None place value = t
-with_entry_of t at_table (Some table) place value =
-    record t { tables = slice_set t.tables at_table (record table { entries = slice_set table.entries place value }) }
+-- the tables with another entry, at that place of the table at a place in the list
+abbrev pub with_entry_in : List Table → ℕ → Option Table → ℕ → ℕ → List Table
+with_entry_in tables at_table None place value = tables
+with_entry_in tables at_table (Some table) place value =
+    slice_set tables at_table (record table { entries = slice_set table.entries place value })
 
+-- the structure with another entry of the symbol at a place
 abbrev pub with_entry : Structure → SymId → ℕ → ℕ → Structure
-with_entry t s place value = with_entry_of t (s.0 - 1) (numbered t.tables s.0) place value
+with_entry t s place value = record t { tables = with_entry_in t.tables (s.0 - 1) (numbered t.tables s.0) place value }
 
 -- ---- truth
 
@@ -86,7 +87,7 @@ pub record IsTableOf (symbol : Symbol) (table : Table) : Type 0 where
 
 -- how many entries the tables of a signature have
 abbrev pub entry_count : List Symbol → ℕ → ℕ
-entry_count symbols size = sum (map (λ (s : Symbol). size ^ s.arity) (drop 1 symbols))
+entry_count symbols size = sum_by (λ (s : Symbol). size ^ s.arity) (drop 1 symbols)
 
 -- every entry is 0
 abbrev pub zero_table : ℕ → Symbol → Table

@@ -29,7 +29,7 @@ pub fn table_of(tables: &[Table], sym: SymId) -> Option<&Table>
 }
 
 /// The entry of a symbol, 0 where there is none. A place that no `usize` holds is passed as the greatest one.
-fn entry(tables: &[Table], sym: SymId, place: usize) -> u8
+pub fn entry(tables: &[Table], sym: SymId, place: usize) -> u8
     ensures { (p : ℕ) → place ≡ min p usize.MAX → result ≡ entry_in (numbered tables.now sym.0) p }
 {
     match table_of(tables, sym) {
