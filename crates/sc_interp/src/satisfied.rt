@@ -8,9 +8,11 @@ use crate::assign::{advance, start};
 use crate::evaluate::some_literal_holds;
 use crate::table::Table;
 use sc_data::Clause;
+use sc_term::full_width;
 
-/// Whether every assignment makes some literal true. The first that doesn't ends the search.
-pub fn is_satisfied(size: u8, tables: &[Table], c: &Clause, values: &mut [u8]) -> bool
+/// Whether every assignment to so many variables as there are places makes some literal true. The first that doesn't
+/// ends the search.
+fn holds_throughout(size: u8, tables: &[Table], c: &Clause, values: &mut [u8]) -> bool
     requires size { 1 ≤ size }
     requires wide { width c.now ≤ length values.old }
     ensures { IsTrue result ↔ Satisfies (record { size = size; tables = tables.now }) c.now }
@@ -24,4 +26,15 @@ pub fn is_satisfied(size: u8, tables: &[Table], c: &Clause, values: &mut [u8]) -
             return true;
         }
     }
+}
+
+/// Whether every assignment to the clause's variables makes some literal true. There may be more places.
+pub fn is_satisfied(size: u8, tables: &[Table], c: &Clause, values: &mut [u8]) -> bool
+    requires size { 1 ≤ size }
+    requires wide { width c.now ≤ length values.old }
+    ensures { IsTrue result ↔ Satisfies (record { size = size; tables = tables.now }) c.now }
+{
+    let width = full_width(c) as usize;
+    let (front, _) = values.split_at_mut(width);
+    holds_throughout(size, tables, c, front)
 }

@@ -4,7 +4,7 @@ use Rattle.std.proofs.lemmas.List.Elements.{All-replicate}
 use Rattle.sc_interp.specs.Assignments.{AreElements, number_of, HoldsBefore}
 use Rattle.sc_interp.proofs.Assignments.{bounded}
 use Rattle.sc_interp.proofs.Agreement.{satisfied, falsified, tried, all_tried, none_tried}
-use Rattle.sc_interp.proofs.satisfied.is_satisfied.Goals as goal
+use Rattle.sc_interp.proofs.satisfied.holds_throughout.Goals as goal
 
 pub assignments-init : goal.assignments-init
 assignments-init c =

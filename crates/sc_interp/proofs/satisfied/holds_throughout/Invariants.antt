@@ -1,6 +1,6 @@
 use Rattle.std.proofs.Common.{◌≡◌, ◌-◌, ◌^◌, length}
 use Rattle.sc_interp.specs.Assignments.{AreElements, number_of, HoldsBefore}
-use Rattle.sc_interp.proofs.satisfied.is_satisfied.Given as goal
+use Rattle.sc_interp.proofs.satisfied.holds_throughout.Given as goal
 
 abbrev pub invariant-assignments : goal.invariant-assignments
 invariant-assignments l = record {
