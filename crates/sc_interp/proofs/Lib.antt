@@ -3,3 +3,4 @@ pub mod Agreement
 pub mod Width
 pub mod Symbols
 pub mod Structures
+pub mod ClaimLaws

@@ -3,6 +3,8 @@
 
 mod assign;
 mod claims;
+mod compare;
+mod copies;
 mod evaluate;
 mod mark;
 mod plain;
@@ -16,4 +18,4 @@ pub use plain::{Claim, Truth, VersionName};
 pub use sqlite_items::Items as List;
 pub use table::Table;
 pub use tables::{MAX_ENTRIES, Tables, TablesError};
-pub use version::{ClaimError, Version};
+pub use version::{ClaimError, Version, same};

@@ -4,6 +4,7 @@ ghost use Rattle.std.specs.Prelude.{◌≡◌, ◌≤◌, ◌<◌, ◌^◌, map,
 ghost use Rattle.sc_interp.specs.Structure.{zero_table, zeros, entry_count, entry_at, with_entry_in, with_entry, HasPlace, MayHold, IsStructure};
 ghost use Rattle.sc_interp.specs.Tables.{IsCauseOfTables};
 
+use crate::copies::copy_tables;
 use crate::evaluate::entry;
 use crate::table::Table;
 use sc_term::{Mem, OutOfMemory, Signature};
@@ -143,6 +144,16 @@ impl Tables {
         ensures { result.now ≡ self.now.tables }
     {
         self.tables.as_slice()
+    }
+
+    pub fn copy(&self, alloc: Global) -> Mem<Tables>
+        ensures { IfOk result (λ t. t ≡ self.now) }
+    {
+        let tables = copy_tables(alloc, self.tables.as_slice())?;
+        Ok(Tables {
+            size: self.size,
+            tables,
+        })
     }
 
     /// The entry at a place of a symbol's table.

@@ -1,11 +1,13 @@
 //! Versions: tables with claims that they make true.
 
-ghost use Rattle.std.specs.Prelude.{◌≡◌, ◌<◌, ◌^◌, length, IfOk, OnOk, IfErr};
+ghost use Rattle.std.specs.Prelude.{◌≡◌, ◌<◌, ◌^◌, ◌↔◌, length, IsTrue, IfOk, OnOk, IfErr};
 ghost use Rattle.sc_interp.specs.Versions as spec;
 ghost use Rattle.sc_interp.specs.Versions.{AreTrue, IsVersion};
 ghost use Rattle.sc_interp.specs.ClaimErrors.{IsCauseOfClaims};
 
 use crate::claims::{first_false, widest};
+use crate::compare::{same_claims, same_tables};
+use crate::copies::copy_claims;
 use crate::plain::Claim;
 use crate::tables::Tables;
 use sc_term::{Mem, Signature};
@@ -32,9 +34,13 @@ pub struct Version {
 }
 
 impl Model for Version {
+    ghost use Rattle.std.specs.Coded.{codes};
+    ghost use Rattle.sc_data.specs.contracts.Term as term;
     ghost use Rattle.sc_interp.specs.Versions.{ClaimedStructure, IsVersion};
 
     ghost Value = { ClaimedStructure };
+
+    ghost coded = { Prim.hlevel (codes, term.the_row.coded) };
 
     ghost view = { λ v. record { tables = v.tables; claims = v.claims } };
 
@@ -83,4 +89,22 @@ impl Version {
     {
         &self.claims
     }
+
+    pub fn copy(&self, alloc: Global) -> Mem<Version>
+        ensures { IfOk result (λ v. v ≡ self.now) }
+    {
+        let tables = self.tables.copy(alloc)?;
+        let claims = copy_claims(alloc, self.claims.as_slice())?;
+        Ok(Version { tables, claims })
+    }
+}
+
+/// Whether the two have the same size, the same tables and the same claims in the same order.
+pub fn same(a: &Version, b: &Version) -> bool
+    ensures { IsTrue result ↔ (a.now ≡ b.now) }
+{
+    let (left, right) = (a.tables(), b.tables());
+    left.size() == right.size()
+        && same_tables(left.tables(), right.tables())
+        && same_claims(a.claims().as_slice(), b.claims().as_slice())
 }
