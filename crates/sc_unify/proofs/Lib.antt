@@ -1,0 +1,3 @@
+pub mod TermFacts
+pub mod Bindings
+pub mod Costs

@@ -1,0 +1,3 @@
+//! Solving.
+use crate::bound::{Bound, find, walk};
+use sc_data::Term;
