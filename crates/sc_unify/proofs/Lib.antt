@@ -1,3 +1,4 @@
 pub mod TermFacts
 pub mod Bindings
 pub mod Costs
+pub mod Equations

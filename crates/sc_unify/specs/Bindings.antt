@@ -1,6 +1,6 @@
 -- Variables bound to terms one after another, and the substitution that they make.
-use Rattle.std.specs.Prelude.{◌≡◌, ◌≢◌, ℕ, ◌+◌, List, [], ◌∷◌, map, nat_eq, if◌then◌else◌, Option, None, Some, MatchOption, IfSome}
-use Rattle.std.specs.List.{fold, AllByRecursion}
+use Rattle.std.specs.Prelude.{◌≡◌, ◌≢◌, ℕ, ◌+◌, List, [], ◌∷◌, map, nat_eq, if◌then◌else◌, Bool, Option, None, Some, MatchOption, IfSome}
+use Rattle.std.specs.List.{fold, AllByRecursion, list_any}
 use Rattle.sc_data.specs.declared.SymId.{SymId}
 use Rattle.sc_data.specs.declared.Term.{Term, Var}
 use Rattle.sc_data.specs.declared.Term.TheVariants.{App}
@@ -45,6 +45,9 @@ written bs = map (λ (b : Binding). record { variable = b.variable; term = finis
 -- the term doesn't have the variable
 abbrev pub Avoids : ℕ → Term → Type 0
 Avoids v t = AllByRecursion (λ n. n ≢ v) (term_variables t)
+
+abbrev pub occurs_in : ℕ → Term → Bool
+occurs_in v t = list_any (nat_eq v) (term_variables t)
 
 -- the substitution makes each bound variable and its term equal
 abbrev pub Respects : Substitution → List Binding → Type 0

@@ -2,5 +2,7 @@
 #![tactic(auto)]
 
 mod bound;
+mod equation;
+mod occurs;
 mod solve;
 mod subst;
