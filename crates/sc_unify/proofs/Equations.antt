@@ -99,12 +99,13 @@ clash u l r f g xs ys el er differ e = by differ
     by (inl ne) = ne (ap (λ (s : SymId). s.0) both.0)
     by (inr ne) = ne (sym (length_map (term_under u) xs) ∙ ap length both.1 ∙ length_map (term_under u) ys)
 
--- a substitution that respects the bindings can't tell what they make equal apart
+-- a substitution that respects the bindings makes of a term what it makes of what the bindings do
+pub settled : (bs : List Binding) → AreSolved bs → (u : Substitution) → Respects u bs → (t : Term) → term_under u t ≡ term_under u (term_under (finished bs) t)
+settled bs is u h t = ap (λ w. term_under w t) (λ i n. is.general u h n i) ∙ sym (compose u (finished bs) t)
+
+-- and can't tell terms apart that the bindings make equal
 pub through : (bs : List Binding) → AreSolved bs → (u : Substitution) → Respects u bs → (s t : Term) → term_under (finished bs) s ≡ term_under (finished bs) t → term_under u s ≡ term_under u t
-through bs is u h s t e = whole s ∙ ap (term_under u) e ∙ sym (whole t)
-  where
-    whole : (t : Term) → term_under u t ≡ term_under u (term_under (finished bs) t)
-    whole t = ap (λ w. term_under w t) (λ i n. is.general u h n i) ∙ sym (compose u (finished bs) t)
+through bs is u h s t e = settled bs is u h s ∙ ap (term_under u) e ∙ sym (settled bs is u h t)
 
 -- the last equation, by what its sides are walked to
 pub last : (bs : List Binding) → AreSolved bs → (u : Substitution) → Respects u bs → (es : List Equal) (e : Equal) (l r : Term)

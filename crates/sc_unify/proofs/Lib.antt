@@ -2,3 +2,5 @@ pub mod TermFacts
 pub mod Bindings
 pub mod Costs
 pub mod Equations
+pub mod OccursCheck
+pub mod Unbound
