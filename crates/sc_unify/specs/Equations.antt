@@ -1,5 +1,5 @@
 -- Equations between terms, and which substitutions solve them.
-use Rattle.std.specs.Prelude.{◌≡◌, ◌≢◌, ℕ, List, [], ◌∷◌, map, sum, length, ◌↔◌, ◌⊎◌, Option, None, Some}
+use Rattle.std.specs.Prelude.{◌≡◌, ◌≢◌, ◌<◌, ◌^◌, ℕ, List, [], ◌∷◌, map, sum, length, ◌↔◌, ◌⊎◌, Option, None, Some}
 use Rattle.std.specs.List.{AllByRecursion}
 use Rattle.sc_data.specs.declared.SymId.{SymId}
 use Rattle.sc_data.specs.declared.Term.{Term, Var}
@@ -39,6 +39,7 @@ left_cost bs es = sum (map (λ (e : Equal). cost bs e.left) es)
 pub record AreBinding (l r : Term) (v : ℕ) (t : Term) : Type 0 where
   pub sides : ((l ≡ Var v) × (r ≡ t)) ⊎ ((r ≡ Var v) × (l ≡ t))
   pub other : t ≢ Var v
+  pub small : v < 2 ^ 32
 
 -- the two have one symbol and as many arguments
 abbrev pub AreArguments : Term → Term → List Term → List Term → Type 0
@@ -56,6 +57,7 @@ pub record ComeToBinding (bs : List Binding) (before now : List Equal) (v : ℕ)
   pub free : lookup bs v ≡ None
   pub walked : IsWalked bs t
   pub other : t ≢ Var v
+  pub small : v < 2 ^ 32
   pub same : (u : Substitution) → Respects u bs → Solves u before ↔ (Solves u now × (u v ≡ term_under u t))
 
 -- what the equations come to where the bindings are respected

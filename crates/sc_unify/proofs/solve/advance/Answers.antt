@@ -85,6 +85,7 @@ bindable bs is start before rest e l r v t same pops left right wl wr h =
       free = free.0;
       walked = free.1;
       other = h.other;
+      small = h.small;
       same = λ u respects.
           let here = popped bs is u respects before rest e l r pops left right in
           let inner = solves-binding u l r v t h in
