@@ -54,7 +54,7 @@ pub solves-append : (u : Substitution) (ds es : List Equal) → Solves u (ds ++ 
 solves-append u ds es = (all_split (λ (e : Equal). term_under u e.left ≡ term_under u e.right) ds es,
   λ both. all_join (λ (e : Equal). term_under u e.left ≡ term_under u e.right) ds es both.0 both.1)
 
-solves-equated : (u : Substitution) (xs ys : List Term) → length xs ≡ length ys → (map (term_under u) xs ≡ map (term_under u) ys) ↔ Solves u (equated xs ys)
+pub solves-equated : (u : Substitution) (xs ys : List Term) → length xs ≡ length ys → (map (term_under u) xs ≡ map (term_under u) ys) ↔ Solves u (equated xs ys)
 solves-equated u [] [] same = (λ e. tt, λ h. refl)
 solves-equated u [] (y ∷ ys) same = absurd (omega arith)
 solves-equated u (x ∷ xs) [] same = absurd (omega arith)

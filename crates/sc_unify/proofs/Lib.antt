@@ -4,3 +4,4 @@ pub mod Costs
 pub mod Equations
 pub mod OccursCheck
 pub mod Unbound
+pub mod Unifiers

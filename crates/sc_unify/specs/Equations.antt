@@ -5,7 +5,7 @@ use Rattle.sc_data.specs.declared.SymId.{SymId}
 use Rattle.sc_data.specs.declared.Term.{Term, Var}
 use Rattle.sc_data.specs.declared.Term.TheVariants.{App}
 use Rattle.sc_data.specs.Term.{term_under}
-use Rattle.sc_data.specs.Substitution.{Substitution}
+use Rattle.sc_data.specs.Substitution.{Substitution, IsInstanceOf}
 use Rattle.sc_unify.specs.declared.bound.Bound.{Bound}
 use Rattle.sc_unify.specs.declared.bound.Binding.{Binding}
 use Rattle.sc_unify.specs.declared.equation.Equation.{Equation}
@@ -73,3 +73,8 @@ HasNoSolution es = (u : Substitution) → ¬ Solves u es
 pub record IsSolution (es : List Equal) (bs : List Binding) : Type 0 where
   pub solved : AreSolved bs
   pub same : (u : Substitution) → Solves u es ↔ Respects u bs
+
+-- a solution, of which each solution is an instance
+pub record IsMostGeneralSolution (es : List Equal) (s : Substitution) : Type 0 where
+  pub solves : Solves s es
+  pub general : (u : Substitution) → Solves u es → IsInstanceOf s u

@@ -5,4 +5,8 @@ mod bound;
 mod equation;
 mod occurs;
 mod solve;
-mod subst;
+mod substitution;
+mod unifier;
+
+pub use substitution::Subst;
+pub use unifier::{unify, unify_all};
