@@ -82,7 +82,7 @@ join_turn f start all i a ys symbols t may so_far = subst (λ ss. MayJoin ss ys)
   arities =
       let front = f (take i all) ++ ys in
       let parts : f all ≡ front ++ f (drop (i + 1) all) =
-          ap f (sym (take-append-drop (i + 1) all)) ∙ t.joins (take (i + 1) all) (drop (i + 1) all) ∙ ap (λ l. l ++ f (drop (i + 1) all)) (turned f all i a ys t) in
+      ap f (sym (take-append-drop (i + 1) all)) ∙ t.joins (take (i + 1) all) (drop (i + 1) all) ∙ ap (λ l. l ++ f (drop (i + 1) all)) (turned f all i a ys t) in
       let small = all_split (λ (s : Symbol). s.arity ≤ 8) front (f (drop (i + 1) all)) (subst (AllByRecursion (λ (s : Symbol). s.arity ≤ 8)) parts may.arities) in
       (all_split (λ (s : Symbol). s.arity ≤ 8) (f (take i all)) ys small.0).1;
 })

@@ -70,7 +70,7 @@ other_turn os i o within item fails =
 pub literal_turn : (ls : WrittenClause) (i : ℕ) (l : WrittenLiteral) → i < length ls → l ≡ get_or ls i l → Turn names_in ls i l (names_of_variables l.arguments)
 literal_turn ls i l within item = record {
   joins = λ ks ms. ap names_of_variables (flat_map-append (λ (k : WrittenLiteral). k.arguments) ks ms)
-  ∙ names_join (flat_map (λ (k : WrittenLiteral). k.arguments) ks) (flat_map (λ (k : WrittenLiteral). k.arguments) ms);
+      ∙ names_join (flat_map (λ (k : WrittenLiteral). k.arguments) ks) (flat_map (λ (k : WrittenLiteral). k.arguments) ms);
   within = within;
   item = item;
   gives = ap names_of_variables (append-nil l.arguments);

@@ -25,7 +25,7 @@ place_of symbols s i is at =
     let there : get_or symbols i s ≡ s = get_or_from_slice_get symbols i s s at in
     let apart = AllPairs-from_IsDistinct decides symbols is.distinct in
     let before : (k : ℕ) → k < i → same_symbol s (get_or symbols k s) ≡ false = λ k below.
-        no (same_symbol s (get_or symbols k s)) (λ e. apart k i s below within (sym (equal_symbols s (get_or symbols k s) e) ∙ sym there)) in
+    no (same_symbol s (get_or symbols k s)) (λ e. apart k i s below within (sym (equal_symbols s (get_or symbols k s) e) ∙ sym there)) in
     place (same_symbol s) symbols i within
     (position_or_len_is (same_symbol s) symbols i s (omega arith) before (λ _. ap (same_symbol s) there ∙ same_as_itself s))
   where

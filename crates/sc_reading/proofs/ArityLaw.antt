@@ -81,7 +81,7 @@ sides-arity (Entry h args comma others) n ns le few =
     let rest = few_back (n ∷ ns) (Word h.at h.text ∷ []) (inner ++ behind) few in
     let a = brackets-arity h args (n ∷ ns) (few_front (n ∷ ns) inner behind rest) (sides-arity args) in
     let b = comma-arity comma others n ns le
-        (subst (λ commas. FewCommas commas behind) (brackets-commas h args (n ∷ ns) (sides-commas args 0 (n ∷ ns))) (few_back (n ∷ ns) inner behind rest)) (sides-arity others) in
+    (subst (λ commas. FewCommas commas behind) (brackets-commas h args (n ∷ ns) (sides-commas args 0 (n ∷ ns))) (few_back (n ∷ ns) inner behind rest)) (sides-arity others) in
     ((a.1, all_join SmallArity (occurrences args) (occurrences others) a.0 b.0), b.1)
 
 -- ---- one side

@@ -47,8 +47,8 @@ module _ (at o c : ℕ) (text : List ℕ) (n : Name) (t : Token) (ts : List Toke
   number_fits v earlier more before e alone no_stop st u range r =
       let first = unpassed_split (problem_fault_at problem_bounds) earlier front more u in
       let clear : IsClear (record { clauses = before; home = None; sentence = front }) =
-          subst IsClear (standing earlier None before front st (refl, (refl, (refl, (refl, no_stop)))))
-          (is_clear (earlier ++ front) (unpassed_at (problem_fault_at problem_bounds) earlier (Word at text) (Punctuation o Open ∷ Word n.at n.text ∷ Punctuation c Comma ∷ t ∷ ts) first.0)) in
+      subst IsClear (standing earlier None before front st (refl, (refl, (refl, (refl, no_stop)))))
+      (is_clear (earlier ++ front) (unpassed_at (problem_fault_at problem_bounds) earlier (Word at text) (Punctuation o Open ∷ Word n.at n.text ∷ Punctuation c Comma ∷ t ∷ ts) first.0)) in
       fits_range range t ts v alone
       (sym (λ i. told (same_text (codes "assign") (e i)) (r i) (t ∷ ts)) ∙ clear.number)
 

@@ -46,7 +46,7 @@ number-new : (front : List Occurrence) (x : Occurrence) (more order : List Occur
 number-new front x more order split none =
     let at : position_or_len (same_name x) (front ++ x ∷ more) ≡ length front = first-passing (same_name x) front x more none ((bytes_decides x.name x.name).1 refl) in
     let lt : nat_lt (position_or_len (same_name x) (front ++ x ∷ more)) (length (front ++ x ∷ more)) ≡ true =
-        less (position_or_len (same_name x) (front ++ x ∷ more)) (length (front ++ x ∷ more)) (omega (arith, at, length-append front (x ∷ more))) in
+    less (position_or_len (same_name x) (front ++ x ∷ more)) (length (front ++ x ∷ more)) (omega (arith, at, length-append front (x ∷ more))) in
     ap (λ order. number order x) split ∙ ap (λ (b : Bool). unwrap_or (cond b (Some (position_or_len (same_name x) (front ++ x ∷ more))) None) 0) lt ∙ at
 
 -- ---- old and new elements

@@ -71,8 +71,7 @@ others-narrow [] few = tt
 others-narrow (b ∷ bs) few =
     let front = few_front [] (behind_bar b) (flat_map behind_bar bs) few in
     let back = few_back [] (behind_bar b) (flat_map behind_bar bs) few in
-    let even : open_commas [] (behind_bar b) ≡ [] = literal-commas b.1.wrapping b.1.atom in
-    (
+    let even : open_commas [] (behind_bar b) ≡ [] = literal-commas b.1.wrapping b.1.atom in (
       literal-narrow b.1 (few_back [] (Punctuation b.0 Bar ∷ []) (literal_tokens b.1) front),
       others-narrow bs (subst (λ commas. FewCommas commas (flat_map behind_bar bs)) even back),
     )
@@ -80,8 +79,7 @@ others-narrow (b ∷ bs) few =
 pub clause-narrow : (c : ClauseTree) → FewCommas [] (clause_tokens c) → AllByRecursion IsNarrow (clause_written c)
 clause-narrow (Falsum at) few = tt
 clause-narrow (Literals l bs) few =
-    let back = few_back [] (literal_tokens l) (flat_map behind_bar bs) few in
-    (
+    let back = few_back [] (literal_tokens l) (flat_map behind_bar bs) few in (
       literal-narrow l (few_front [] (literal_tokens l) (flat_map behind_bar bs) few),
       others-narrow bs (subst (λ commas. FewCommas commas (flat_map behind_bar bs)) (literal-commas l.wrapping l.atom) back),
     )

@@ -50,10 +50,10 @@ after_last-bar xs ys at h =
     let bar = Punctuation at Bar in
     let all = xs ++ bar ∷ ys in
     let turned : reverse (xs ++ bar ∷ ys) ≡ reverse ys ++ (bar ∷ reverse xs) =
-        reverse-append xs (bar ∷ ys) ∙ ap (λ ts. ts ++ reverse xs) (reverse-append (bar ∷ []) ys) ∙ append_assoc (reverse ys) (bar ∷ []) (reverse xs) in
+    reverse-append xs (bar ∷ ys) ∙ ap (λ ts. ts ++ reverse xs) (reverse-append (bar ∷ []) ys) ∙ append_assoc (reverse ys) (bar ∷ []) (reverse xs) in
     let e : suffix_len passes (xs ++ bar ∷ ys) ≡ length ys + 0 = ap (prefix_len passes) turned ∙ prefix-none ys (bar ∷ reverse xs) h in
     let front : length (xs ++ bar ∷ ys) - suffix_len passes (xs ++ bar ∷ ys) ≡ length (xs ++ bar ∷ []) =
-        omega (arith, e, length-append xs (bar ∷ ys), length-append xs (bar ∷ [])) in
+    omega (arith, e, length-append xs (bar ∷ ys), length-append xs (bar ∷ [])) in
     ap (λ (n : ℕ). drop n (xs ++ bar ∷ ys)) front ∙ ap (drop (length (xs ++ bar ∷ []))) (sym (append_assoc xs (bar ∷ []) ys)) ∙ drop-append_seam (xs ++ bar ∷ []) ys
 
 at_most : (d ds n so_far atom all : ℕ) → d ≤ atom → so_far ≤ n → so_far ≡ atom → ds ≤ n → all ≡ max d ds → all ≤ n
@@ -75,7 +75,7 @@ module _ (variable : Occurrence → Option ℕ) (symbols : List Symbol) where
       → (depth_of variable symbols (Entry h args 0 Empty) ≤ greatest_level 0 (side_tokens h args ++ more)) × (greatest_level 0 more ≤ greatest_level 0 (side_tokens h args ++ more))
   side-levels h args more l =
       let e : greatest_level 0 (tokens_of (Entry h args 0 Empty) ++ more) ≡ greatest_level 0 (side_tokens h args ++ more) =
-          ap (λ (ts : List Token). greatest_level 0 ((Word h.at h.text ∷ ts) ++ more)) (append-nil (in_brackets h args (tokens_of args))) in
+      ap (λ (ts : List Token). greatest_level 0 ((Word h.at h.text ∷ ts) ++ more)) (append-nil (in_brackets h args (tokens_of args))) in
       let d = l.deep in
       let b = l.behind in
       (omega arith, omega arith)
@@ -122,7 +122,7 @@ module _ (variable : Occurrence → Option ℕ) (symbols : List Symbol) where
       let both = two-deep e in
       let whole : (left ++ sign ∷ right) ++ more ≡ left ++ sign ∷ (right ++ more) = append_assoc left (sign ∷ right) more in
       let depth : depth_of_atom ((left ++ sign ∷ right) ++ more) ≡ greatest_level 0 (left ++ sign ∷ (right ++ more)) + 1 =
-          ap depth_of_atom whole ∙ ap (λ (b : Bool). greatest_level 0 (left ++ sign ∷ (right ++ more)) + (if b then 1 else 0)) (is_sign_there e.positive e.at left (right ++ more)) in
+      ap depth_of_atom whole ∙ ap (λ (b : Bool). greatest_level 0 (left ++ sign ∷ (right ++ more)) + (if b then 1 else 0)) (is_sign_there e.positive e.at left (right ++ more)) in
       let a = l.0 in
       let b = l.1 in
       let c = r.0 in
@@ -148,7 +148,7 @@ module _ (variable : Occurrence → Option ℕ) (symbols : List Symbol) where
       let one = literal-shallow b.1 in
       let here = h (xs ++ behind_bar b) (flat_map behind_bar bs) (sym (append_assoc xs (behind_bar b) (flat_map behind_bar bs))) in
       let last : depth_so_far (xs ++ behind_bar b) ≡ depth_of_atom (without_bracket (without_minus (literal_tokens b.1))) =
-          ap (λ (ts : List Token). depth_of_atom (without_bracket (without_minus ts))) (after_last-bar xs (literal_tokens b.1) b.0 (literal_no_bar b.1)) in
+      ap (λ (ts : List Token). depth_of_atom (without_bracket (without_minus ts))) (after_last-bar xs (literal_tokens b.1) b.0 (literal_no_bar b.1)) in
       let others = others-shallow n (xs ++ behind_bar b) bs (λ front more e. h front more (sym (append_assoc xs (behind_bar b) (flat_map behind_bar bs)) ∙ e)) in
       let l = largest-cons (literal_depth (literal_of variable symbols (literal_written b.1))) (map literal_depth (map (literal_of variable symbols) (map (λ (b : ℕ × LiteralTree). literal_written b.1) bs))) in
       at_most (literal_depth (literal_of variable symbols (literal_written b.1)))
@@ -160,7 +160,7 @@ module _ (variable : Occurrence → Option ℕ) (symbols : List Symbol) where
       let one = literal-shallow l in
       let here = h (literal_tokens l) (flat_map behind_bar bs) refl in
       let last : depth_so_far (literal_tokens l) ≡ depth_of_atom (without_bracket (without_minus (literal_tokens l))) =
-          ap (λ (ts : List Token). depth_of_atom (without_bracket (without_minus ts))) (after_last-all (literal_tokens l) (literal_no_bar l)) in
+      ap (λ (ts : List Token). depth_of_atom (without_bracket (without_minus ts))) (after_last-all (literal_tokens l) (literal_no_bar l)) in
       let others = others-shallow n (literal_tokens l) bs h in
       let k = largest-cons (literal_depth (literal_of variable symbols (literal_written l))) (map literal_depth (map (literal_of variable symbols) (map (λ (b : ℕ × LiteralTree). literal_written b.1) bs))) in
       at_most (literal_depth (literal_of variable symbols (literal_written l)))

@@ -88,7 +88,7 @@ clause_stands earlier h cs t ts at st n e u =
     let closing : closes (t ∷ ts) ≡ false = not_closing t ts e in
     let few : length cs < 10000 = room h cs t e (clear_at earlier h cs t [] (ts ++ Punctuation at Stop ∷ []) st (n.0, tt) u) in
     let end : IsClear (record { clauses = cs ++ (h, t ∷ ts) ∷ []; home = Some h; sentence = [] }) =
-        subst IsClear (standing_ended earlier (t ∷ ts) at h cs st n closing)
-        (is_clear (earlier ++ (s ++ Punctuation at Stop ∷ [])) (unpassed_at (problem_fault_at problem_bounds) earlier t (ts ++ Punctuation at Stop ∷ []) u)) in
+    subst IsClear (standing_ended earlier (t ∷ ts) at h cs st n closing)
+    (is_clear (earlier ++ (s ++ Punctuation at Stop ∷ [])) (unpassed_at (problem_fault_at problem_bounds) earlier t (ts ++ Punctuation at Stop ∷ []) u)) in
     stands_behind earlier (t ∷ ts) at h cs st n closing
     (record { few = omega (arith, few, length-append cs ((h, t ∷ ts) ∷ [])); symbols = end.symbols; demodulators = end.demodulators })

@@ -100,7 +100,7 @@ equation-case symbols positive q zeroth sides e =
     let first = both_true positive (is_equation l) rest.0 in
     let no_variable : is_variable (occurrence q.left_head q.left_args) ≡ false = sym (ap is_one_variable sides.left) ∙ not_true (is_one_variable (left_side l)) rest.1 in
     let holds : list_all (λ o. list_any (same_name o) (filter is_variable (side_of q.left_head q.left_args))) (filter is_variable (side_of q.right_head q.right_args)) ≡ true =
-        sym (λ i. list_all (λ o. list_any (same_name o) (filter is_variable (sides.left i))) (filter is_variable (sides.right i))) ∙ last.1 in
+    sym (λ i. list_all (λ o. list_any (same_name o) (filter is_variable (sides.left i))) (filter is_variable (sides.right i))) ∙ last.1 in
     let args = ap (terms_of (number_in order) symbols) (sides_under-arguments (Equation q)) ∙ terms_of-alone (number_in order) symbols (sides_under (Equation q)) in
     both (positive && nat_eq (symbol_number symbols equality).0 0) (are_rewriting_sides (terms_of (number_in order) symbols l.arguments))
     (both positive (nat_eq (symbol_number symbols equality).0 0) first.0 (ap (λ (f : SymId). nat_eq f.0 0) zeroth))

@@ -65,9 +65,9 @@ clause-canonical symbols c =
     let e = written-literals c in
     let placed = subst (AllByRecursion (λ (l : WrittenLiteral). AllByRecursion (IsPlaced order) l.arguments)) e (variables-placed w) in
     let same : variables (clause_of symbols (clause_written c)) ≡ map (number (variable_order (clause_written c))) (variables_of (clause_written c)) =
-        ap (λ (w : WrittenClause). joined (map (λ (l : Literal). joined (map term_variables l.args)) (map (literal_of (number_in order) symbols) w))) e
-        ∙ clause-variables order symbols (literals_in c) placed
-        ∙ ap (λ (w : WrittenClause). numbers_of order (flat_map (λ (l : WrittenLiteral). l.arguments) w)) (sym e) in
+    ap (λ (w : WrittenClause). joined (map (λ (l : Literal). joined (map term_variables l.args)) (map (literal_of (number_in order) symbols) w))) e
+    ∙ clause-variables order symbols (literals_in c) placed
+    ∙ ap (λ (w : WrittenClause). numbers_of order (flat_map (λ (l : WrittenLiteral). l.arguments) w)) (sym e) in
     counts_itself (firsts (variables (clause_of symbols w))) (length (once same_name [] (variables_of w))) (ap firsts same ∙ firsts-numbers (variables_of w))
 
 -- ---- an input

@@ -77,7 +77,7 @@ one_holds earlier h before c stop left spelt e st u fair =
     let end = Punctuation stop Stop ∷ [] in
     let s = has_tokens c in
     let stands = clause_stands earlier h before s.0 s.1 stop st (subst HasNoStop s.2 (clause_no_stop c))
-        (subst (λ ts. next_is (is_word end_word) ((ts ++ Punctuation stop Stop ∷ []) ++ left) ≡ false) s.2 e) (subst (λ ts. IsUnpassed earlier (ts ++ Punctuation stop Stop ∷ [])) s.2 u) in
+    (subst (λ ts. next_is (is_word end_word) ((ts ++ Punctuation stop Stop ∷ []) ++ left) ≡ false) s.2 e) (subst (λ ts. IsUnpassed earlier (ts ++ Punctuation stop Stop ∷ [])) s.2 u) in
     record {
       admitted = record {
         spelt = spelt;

@@ -94,7 +94,7 @@ listing_read at text ts i left e g =
     let close = Punctuation q.closing Close ∷ [] in
     let r = clauses_read (length d.left) d.left f.value f.left f.first in
     let ends : f.left ≡ Word w.at (codes "end_of_list") ∷ Punctuation t.at Stop ∷ left =
-        w.tokens ∙ ap (λ us. Word w.at (codes "end_of_list") ∷ us) (t.tokens ∙ ap (λ us. Punctuation t.at Stop ∷ us) z.left) in
+    w.tokens ∙ ap (λ us. Word w.at (codes "end_of_list") ∷ us) (t.tokens ∙ ap (λ us. Punctuation t.at Stop ∷ us) z.left) in
     subst (λ i. ItemRead (Word at text ∷ ts) i left) z.value
     (listing_from (Word at text ∷ Punctuation o.at Open ∷ name ∷ close) q.stop w.at t.at c.value f.value (Word at text ∷ ts) d.left left
     (opened-list at text (Punctuation o.at Open) c.value close e (home_known c.value.text n.listed c.value.at)) (refl, (refl, (refl, (refl, tt))))

@@ -31,9 +31,11 @@ module _ (P : Token → Type 0) (p : OfLiterals P) where
 
   pub sides_all : (f : Sides) → AllByRecursion P (tokens_of f)
   sides_all Empty = tt
-  sides_all (Entry h args comma others) =
-      (p.word h.at h.text, all_join P (in_brackets h args (tokens_of args)) (behind_comma comma others (tokens_of others))
-      (brackets_all h args (tokens_of args) (sides_all args)) (comma_all comma others (tokens_of others) (sides_all others)))
+  sides_all (Entry h args comma others) = (
+    p.word h.at h.text,
+    all_join P (in_brackets h args (tokens_of args)) (behind_comma comma others (tokens_of others))
+        (brackets_all h args (tokens_of args) (sides_all args)) (comma_all comma others (tokens_of others) (sides_all others)),
+  )
 
   pub side_all : (h : Head) (args : Sides) → AllByRecursion P (side_tokens h args)
   side_all h args = (p.word h.at h.text, brackets_all h args (tokens_of args) (sides_all args))
@@ -68,7 +70,6 @@ module _ (P : Token → Type 0) (p : OfLiterals P) where
   pub clause_all : ((at : ℕ) → P (Punctuation at Bar)) → (c : ClauseTree) → AllByRecursion P (clause_tokens c)
   clause_all bar (Falsum at) = (p.word at (codes "$F"), tt)
   clause_all bar (Literals l bs) = all_join P (literal_tokens l) (flat_map behind_bar bs) (literal_all l) (bars_all bar bs)
-
 
 not_stop : OfLiterals (λ t. is_sign Stop t ≡ false)
 not_stop = record { word = λ at text. refl; opening = λ at. refl; closing = λ at. refl; comma = λ at. refl; minus = λ at. refl; equal = λ b at. by b at }

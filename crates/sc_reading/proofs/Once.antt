@@ -21,7 +21,6 @@ module _ {X : Type 0} (same : X → X → Bool) where
 
   -- ---- each is there
 
-
   right : (b : Bool) → (b || true) ≡ true
   right true = refl
   right false = refl
@@ -48,8 +47,7 @@ module _ {X : Type 0} (same : X → X → Bool) where
             → AllByRecursion (There before (with_one b x before xs)) (x ∷ xs)
         by true e k m = (ap (λ (b : Bool). b || list_any (same x) (once same before xs)) e, k)
         by false e k m =
-            let found = once same (x ∷ before) xs in
-            (
+            let found = once same (x ∷ before) xs in (
               ap (λ (b : Bool). list_any (same x) before || (b || list_any (same x) found)) (itself x) ∙ right (list_any (same x) before),
               all_moved x before found xs m,
             )

@@ -109,6 +109,6 @@ standing_ended earlier s at h cs st n e =
     let all = sentences-ended earlier s at st.before st.cut n in
     let home = home_behind-one_more None st.before s ∙ ap (λ home. next_home home s) st.home_is ∙ ap (home_if h) e in
     let clauses : clauses_of None (st.before ++ s ∷ []) ≡ cs ++ (h, s) ∷ [] =
-        clauses_of-one_more None st.before s ∙ (λ i. st.clauses i ++ clause_at (st.home_is i) s) ∙ ap (λ (b : Bool). cs ++ elim b [ true ↦ [] | false ↦ (h, s) ∷ [] ]) e in
+    clauses_of-one_more None st.before s ∙ (λ i. st.clauses i ++ clause_at (st.home_is i) s) ∙ ap (λ (b : Bool). cs ++ elim b [ true ↦ [] | false ↦ (h, s) ∷ [] ]) e in
     (λ i. record { clauses = clauses_of None ((all i).0); home = home_behind None ((all i).0); sentence = (all i).1 })
     ∙ (λ i. record { clauses = clauses i; home = home i; sentence = [] })

@@ -30,7 +30,7 @@ module _ (variable : Occurrence → Option ℕ) (symbols : List Symbol) where
       let o = occurrence h args in
       let behind = terms others ++ terms_of variable symbols os in
       let later : terms_of variable symbols ((occurrences args ++ occurrences others) ++ os) ≡ terms args ++ behind =
-          ap (terms_of variable symbols) (append_assoc (occurrences args) (occurrences others) os) ∙ terms_of-occurrences args (occurrences others ++ os) ∙ ap (λ ts. terms args ++ ts) (terms_of-occurrences others os) in
+      ap (terms_of variable symbols) (append_assoc (occurrences args) (occurrences others) os) ∙ terms_of-occurrences args (occurrences others ++ os) ∙ ap (λ ts. terms args ++ ts) (terms_of-occurrences others os) in
       let front : take (count args) (terms args ++ behind) ≡ terms args = ap (λ n. take n (terms args ++ behind)) (sym (terms-length args)) ∙ take-append_seam (terms args) behind in
       let back : drop (count args) (terms args ++ behind) ≡ behind = ap (λ n. drop n (terms args ++ behind)) (sym (terms-length args)) ∙ drop-append_seam (terms args) behind in
       (λ i. term_at variable symbols o (later i) ∷ drop (count args) (later i)) ∙ (λ i. term_from o (front i) ∷ back i)

@@ -26,8 +26,7 @@ module _ (fault_at : List Token → Option Place) where
   unpassed_split earlier [] ys e = (refl, ap (λ (us : List Token). passed_behind fault_at us ys) (append-nil earlier) ∙ e)
   unpassed_split earlier (x ∷ xs) ys e =
       let b = both_none (fault_at (earlier ++ x ∷ [])) (passed_behind fault_at (earlier ++ x ∷ []) (xs ++ ys)) e in
-      let s = unpassed_split (earlier ++ x ∷ []) xs ys b.1 in
-      (
+      let s = unpassed_split (earlier ++ x ∷ []) xs ys b.1 in (
         ap (λ (o : Option Place). or_else o (passed_behind fault_at (earlier ++ x ∷ []) xs)) b.0 ∙ s.0,
         ap (λ (us : List Token). passed_behind fault_at us ys) (sym (append_assoc earlier (x ∷ []) xs)) ∙ s.1,
       )

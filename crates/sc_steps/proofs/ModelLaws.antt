@@ -221,16 +221,18 @@ IsAmong atoms l = list_any (same_atom (atom_of l)) atoms ≡ true
 
 own_atoms : (ls : List Literal) → AllByRecursion (IsAmong (map atom_of ls)) ls
 own_atoms [] = tt
-own_atoms (l ∷ ls) =
-    (ap (λ b. b || list_any (same_atom (atom_of l)) (map atom_of ls)) (same_as_itself (atom_of l)),
-    all_so (IsAmong (map atom_of ls)) (IsAmong (map atom_of (l ∷ ls))) (λ m h. or_right (same_atom (atom_of m) (atom_of l)) _ h) ls (own_atoms ls))
+own_atoms (l ∷ ls) = (
+  ap (λ b. b || list_any (same_atom (atom_of l)) (map atom_of ls)) (same_as_itself (atom_of l)),
+  all_so (IsAmong (map atom_of ls)) (IsAmong (map atom_of (l ∷ ls))) (λ m h. or_right (same_atom (atom_of m) (atom_of l)) _ h) ls (own_atoms ls),
+)
 
 all_atoms : (cs : List Clause) → AllByRecursion (λ (c : Clause). AllByRecursion (IsAmong (atoms_of cs)) c.literals) cs
 all_atoms [] = tt
-all_atoms (c ∷ cs) =
-    (all_so (IsAmong (map atom_of c.literals)) (IsAmong (atoms_of (c ∷ cs))) (λ l h. any_left (same_atom (atom_of l)) (map atom_of c.literals) (atoms_of cs) h) c.literals (own_atoms c.literals),
-    all_so (λ (d : Clause). AllByRecursion (IsAmong (atoms_of cs)) d.literals) (λ (d : Clause). AllByRecursion (IsAmong (atoms_of (c ∷ cs))) d.literals)
-    (λ d k. all_so (IsAmong (atoms_of cs)) (IsAmong (atoms_of (c ∷ cs))) (λ l h. any_right (same_atom (atom_of l)) (map atom_of c.literals) (atoms_of cs) h) d.literals k) cs (all_atoms cs))
+all_atoms (c ∷ cs) = (
+  all_so (IsAmong (map atom_of c.literals)) (IsAmong (atoms_of (c ∷ cs))) (λ l h. any_left (same_atom (atom_of l)) (map atom_of c.literals) (atoms_of cs) h) c.literals (own_atoms c.literals),
+  all_so (λ (d : Clause). AllByRecursion (IsAmong (atoms_of cs)) d.literals) (λ (d : Clause). AllByRecursion (IsAmong (atoms_of (c ∷ cs))) d.literals)
+      (λ d k. all_so (IsAmong (atoms_of cs)) (IsAmong (atoms_of (c ∷ cs))) (λ l h. any_right (same_atom (atom_of l)) (map atom_of c.literals) (atoms_of cs) h) d.literals k) cs (all_atoms cs),
+)
 
 -- ---- refuted clauses
 
@@ -241,5 +243,5 @@ not_all_true IsElement meaning element element_is closed inputs refuted all =
     let a : Assignment = λ n. element in
     let atoms = atoms_of refuted.members in
     let hold = all_so (IsMember inputs) (λ (c : Clause). list_any (literal_holds meaning a) c.literals ≡ true)
-        (λ c h. member_holds IsElement meaning element element_is closed inputs c all h) refuted.members refuted.allowed in
+    (λ c h. member_holds IsElement meaning element element_is closed inputs c all h) refuted.members refuted.allowed in
     true≢false (sym (refuted.false_somewhere (filter (is_true meaning a) atoms)) ∙ none_false meaning a atoms refuted.members (all_atoms refuted.members) hold)
