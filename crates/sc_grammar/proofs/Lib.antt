@@ -1,0 +1,5 @@
+pub mod Clipping
+pub mod Lists
+pub mod Numbers
+pub mod Sides
+pub mod Items

@@ -1,0 +1,11 @@
+use Rattle.std.proofs.Common.{◌∙◌, arith}
+use Rattle.sc_grammar.proofs.Numbers.{numeral-goes_on}
+use Rattle.sc_grammar.proofs.number.numeral_value.Goals as goal
+
+pub loop-byte-preserved : goal.loop-byte-preserved
+loop-byte-preserved c =
+    let digit = c.in-Some.ensures in
+    record {
+      so_far = numeral-goes_on c.args.text.now c.loop-byte.byte-index c.loop-byte.value c.in-Some.digit c.min-value.result c.loop-byte-test.true digit.0 digit.1 c.min-value.ensures ∙ c.loop-byte.invariant.so_far;
+      within = omega (arith, c.min-value.ensures);
+    }

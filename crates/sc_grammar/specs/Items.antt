@@ -1,0 +1,61 @@
+-- Items as code answers them. A number of more than ten digits stands as the least such number of its sign.
+use Rattle.std.specs.Prelude.{ℕ, suc, min, Bool, true, false, List, map, Option, Some, None, Ok, ℤ, pos, negsuc, neg_ℤ}
+use Rattle.std.specs.List.{list_all}
+use Rattle.std.specs.Str.Parse.{digits_value_after}
+use Rattle.sc_reading.specs.Tokens.{is_digit}
+use Rattle.sc_reading.specs.declared.token.Token.{Token}
+use Rattle.sc_reading.specs.Reader.{Read, ◌>>=◌, Name}
+use Rattle.sc_reading.specs.ProblemGrammar.{Item, Setting, Assignment, Listing, item, at_end, at_proof_or_end}
+use Rattle.sc_grammar.specs.declared.item.Name.{Name as Named}
+use Rattle.sc_grammar.specs.declared.item.Item.{Item as Told}
+use Rattle.sc_grammar.specs.declared.item.Item.TheVariants.{Setting as TheSetting, Assignment as TheAssignment, Listing as TheListing}
+
+abbrev pub beyond : ℕ
+beyond = 10000000000
+
+abbrev pub clipped : ℤ → ℤ
+clipped (pos n) = pos (min n beyond)
+clipped (negsuc n) = neg_ℤ (pos (min (suc n) beyond))
+
+abbrev pub clipped_read : Read ℤ → Read ℤ
+clipped_read read = read >>= λ n. Ok (clipped n.0, n.1)
+
+-- the number that digits write behind those of n
+abbrev pub numeral_after : ℕ → List ℕ → Option ℕ
+numeral_after n text = elim (list_all is_digit text) [ true ↦ Some (min (digits_value_after 10 n text) beyond) | false ↦ None ]
+
+abbrev pub numeral_value : List ℕ → Option ℕ
+numeral_value text = numeral_after 0 text
+
+-- ---- items
+
+abbrev pub name_of : Named → Name
+name_of n = record { at = n.at; text = n.text }
+
+-- as an item of the grammar
+abbrev pub item_of : Told → Item
+item_of (TheSetting n positive) = Setting (name_of n) positive
+item_of (TheAssignment n value) = Assignment (name_of n) value
+item_of (TheListing n clauses) = Listing (name_of n) clauses
+
+abbrev pub items_of : List Told → List Item
+items_of = map item_of
+
+abbrev pub with_clipped : Item → Item
+with_clipped (Setting n positive) = Setting n positive
+with_clipped (Assignment n value) = Assignment n (clipped value)
+with_clipped (Listing n clauses) = Listing n clauses
+
+abbrev pub clipped_item : Read Item → Read Item
+clipped_item read = read >>= λ r. Ok (with_clipped r.0, r.1)
+
+abbrev pub told_item : List Token → Read Item
+told_item tokens = clipped_item (item tokens)
+
+abbrev pub clipped_items : Read (List Item) → Read (List Item)
+clipped_items read = read >>= λ r. Ok (map with_clipped r.0, r.1)
+
+-- where a problem ends, which a section of a proof or a run may follow
+abbrev pub ends_at : Bool → List Token → Bool
+ends_at true = at_proof_or_end
+ends_at false = at_end

@@ -1,0 +1,53 @@
+//! Reading a clause.
+
+ghost use Rattle.std.specs.Prelude.{◌≡◌, ◌<◌, [], ◌∷◌, ◌++◌, length, codes};
+ghost use Rattle.sc_reading.specs.Reader as spec;
+ghost use Rattle.sc_reading.specs.ClauseGrammar as of;
+ghost use Rattle.sc_reading.specs.declared.token.Sign.TheVariants.{Bar};
+ghost use Rattle.sc_scan.specs.Told.{Gives};
+
+use crate::literal::read_literal;
+use sc_reading::{Sign, Token, WrittenLiteral};
+use sc_scan::{Stop, next_is_sign, next_is_word, stop_at, the_sign};
+use sqlite_items::Items;
+use std::alloc::Global;
+
+/// A clause as it is written, and the tokens behind it: no literal for `$F`, else one or more with `|` between them. It
+/// stops for want of memory, or at the first token that `clause` doesn't allow.
+pub fn read_clause(
+    alloc: Global,
+    tokens: &[Token],
+) -> Result<(Items<WrittenLiteral>, &[Token]), Stop>
+    ensures { Gives (λ x. (x.0, x.1.now)) result (of.clause tokens.now) }
+{
+    if next_is_word(b"$F".as_slice(), tokens) {
+        without_first(alloc, tokens)
+    } else {
+        literals(alloc, tokens)
+    }
+}
+
+fn without_first(alloc: Global, tokens: &[Token]) -> Result<(Items<WrittenLiteral>, &[Token]), Stop>
+    ensures { Gives (λ x. (x.0, x.1.now)) result (of.without_first tokens.now) }
+{
+    match tokens {
+        [] => Err(stop_at(tokens)),
+        [_, rest @ ..] => Ok((Items::new(alloc), rest)),
+    }
+}
+
+fn literals(alloc: Global, tokens: &[Token]) -> Result<(Items<WrittenLiteral>, &[Token]), Stop>
+    ensures { Gives (λ x. (x.0, x.1.now)) result (spec.separated Bar of.literal (length tokens.now) tokens.now) }
+{
+    let mut front = Items::new(alloc);
+    let mut rest = tokens;
+    for _ in 0..tokens.len() {
+        let (literal, after) = read_literal(alloc, rest)?;
+        front.push(literal)?;
+        if !next_is_sign(Sign::Bar, after) {
+            return Ok((front, after));
+        }
+        rest = the_sign(Sign::Bar, after)?;
+    }
+    Err(stop_at(rest))
+}

@@ -1,0 +1,178 @@
+//! Reading a literal in each of its forms.
+
+ghost use Rattle.std.specs.Prelude.{◌≡◌, ◌<◌, ◌++◌, [], ◌∷◌, length, codes, true};
+ghost use Rattle.sc_reading.specs.Reader as spec;
+ghost use Rattle.sc_reading.specs.ClauseGrammar as of;
+ghost use Rattle.sc_scan.specs.Told.{Gives};
+ghost use Rattle.sc_grammar.specs.Behind.{negative_literal};
+
+use crate::side::read_side;
+use sc_reading::{Occurrence, Sign, Token, WrittenLiteral};
+use sc_scan::{Stop, next_is_sign, stop_at, the_sign};
+use sqlite_items::Items;
+use std::alloc::Global;
+
+/// A literal: a side, an equation, an equation in parentheses, `-` and a side, or `-` and an equation in parentheses.
+pub fn read_literal(alloc: Global, tokens: &[Token]) -> Result<(WrittenLiteral, &[Token]), Stop>
+    ensures { Gives (λ x. (x.0, x.1.now)) result (of.literal tokens.now) }
+{
+    if next_is_sign(Sign::Minus, tokens) {
+        negative_literal(alloc, tokens)
+    } else {
+        unsigned_literal(alloc, tokens)
+    }
+}
+
+fn negative_literal(alloc: Global, tokens: &[Token]) -> Result<(WrittenLiteral, &[Token]), Stop>
+    ensures { Gives (λ x. (x.0, x.1.now)) result (negative_literal tokens.now) }
+{
+    let rest = the_sign(Sign::Minus, tokens)?;
+    let (literal, rest) = below_minus(alloc, rest)?;
+    Ok((negated(literal), rest))
+}
+
+fn negated(literal: WrittenLiteral) -> WrittenLiteral
+    ensures { result ≡ of.negated literal }
+{
+    let WrittenLiteral {
+        positive,
+        predicate,
+        arguments,
+    } = literal;
+    WrittenLiteral {
+        positive: !positive,
+        predicate,
+        arguments,
+    }
+}
+
+/// A side, an equation, or an equation in parentheses.
+fn unsigned_literal(alloc: Global, tokens: &[Token]) -> Result<(WrittenLiteral, &[Token]), Stop>
+    ensures { Gives (λ x. (x.0, x.1.now)) result (of.bracketed_or of.plain_literal tokens.now) }
+{
+    if next_is_sign(Sign::Open, tokens) {
+        bracketed_equation(alloc, tokens)
+    } else {
+        plain_literal(alloc, tokens)
+    }
+}
+
+/// What stands behind `-`: a side, or an equation in parentheses.
+fn below_minus(alloc: Global, tokens: &[Token]) -> Result<(WrittenLiteral, &[Token]), Stop>
+    ensures { Gives (λ x. (x.0, x.1.now)) result (of.bracketed_or of.negative_atom tokens.now) }
+{
+    if next_is_sign(Sign::Open, tokens) {
+        bracketed_equation(alloc, tokens)
+    } else {
+        negative_atom(alloc, tokens)
+    }
+}
+
+fn negative_atom(alloc: Global, tokens: &[Token]) -> Result<(WrittenLiteral, &[Token]), Stop>
+    ensures { Gives (λ x. (x.0, x.1.now)) result (of.negative_atom tokens.now) }
+{
+    let (side, rest) = one_side(alloc, tokens)?;
+    atom_of(side, rest)
+}
+
+fn plain_literal(alloc: Global, tokens: &[Token]) -> Result<(WrittenLiteral, &[Token]), Stop>
+    ensures { Gives (λ x. (x.0, x.1.now)) result (of.plain_literal tokens.now) }
+{
+    let (side, rest) = one_side(alloc, tokens)?;
+    if next_is_equality(rest) {
+        right_of(alloc, side, rest)
+    } else {
+        atom_of(side, rest)
+    }
+}
+
+fn bracketed_equation(alloc: Global, tokens: &[Token]) -> Result<(WrittenLiteral, &[Token]), Stop>
+    ensures { Gives (λ x. (x.0, x.1.now)) result (of.bracketed of.equation tokens.now) }
+{
+    let rest = the_sign(Sign::Open, tokens)?;
+    let (equation, rest) = read_equation(alloc, rest)?;
+    let rest = the_sign(Sign::Close, rest)?;
+    Ok((equation, rest))
+}
+
+fn read_equation(alloc: Global, tokens: &[Token]) -> Result<(WrittenLiteral, &[Token]), Stop>
+    ensures { Gives (λ x. (x.0, x.1.now)) result (of.equation tokens.now) }
+{
+    let (left, rest) = one_side(alloc, tokens)?;
+    right_of(alloc, left, rest)
+}
+
+fn one_side(alloc: Global, tokens: &[Token]) -> Result<(Items<Occurrence>, &[Token]), Stop>
+    ensures { Gives (λ x. (x.0, x.1.now)) result (of.side tokens.now) }
+{
+    let mut names = Items::new(alloc);
+    let rest = read_side(alloc, tokens, &mut names)?;
+    Ok((names, rest))
+}
+
+fn next_is_equality(tokens: &[Token]) -> bool
+    ensures { result ≡ spec.next_is of.is_equality tokens.now }
+{
+    match tokens {
+        [Token::Punctuation(_, Sign::Equal | Sign::Unequal), ..] => true,
+        _ => false,
+    }
+}
+
+/// What stands behind the left side of an equation.
+fn right_of(
+    alloc: Global,
+    left: Items<Occurrence>,
+    tokens: &[Token],
+) -> Result<(WrittenLiteral, &[Token]), Stop>
+    ensures { Gives (λ x. (x.0, x.1.now)) result (of.right_of left tokens.now) }
+{
+    match tokens {
+        [Token::Punctuation(at, Sign::Equal), rest @ ..] => equate(alloc, true, *at, left, rest),
+        [Token::Punctuation(at, Sign::Unequal), rest @ ..] => equate(alloc, false, *at, left, rest),
+        _ => Err(stop_at(tokens)),
+    }
+}
+
+/// An equation of this left side, whose sign stood at this place, and the right side that is read.
+fn equate(
+    alloc: Global,
+    positive: bool,
+    at: u64,
+    left: Items<Occurrence>,
+    tokens: &[Token],
+) -> Result<(WrittenLiteral, &[Token]), Stop>
+    ensures { Gives (λ x. (x.0, x.1.now)) result (spec.◌>>=◌ (of.side tokens.now) (λ right. Ok (of.equation_of positive at left right.0, right.1))) }
+{
+    let mut arguments = left;
+    let rest = read_side(alloc, tokens, &mut arguments)?;
+    let name = Items::from_slice(alloc, b"=".as_slice())?;
+    let predicate = Occurrence { at, name, arity: 2 };
+    Ok((
+        WrittenLiteral {
+            positive,
+            predicate,
+            arguments,
+        },
+        rest,
+    ))
+}
+
+/// A side that is a whole literal: its first name is the predicate.
+fn atom_of(side: Items<Occurrence>, tokens: &[Token]) -> Result<(WrittenLiteral, &[Token]), Stop>
+    ensures { Gives (λ x. (x.0, x.1.now)) result (of.atom_of true side tokens.now) }
+{
+    if side.is_empty() {
+        return Err(stop_at(tokens));
+    }
+    let mut arguments = side;
+    let predicate = arguments.remove(0);
+    Ok((
+        WrittenLiteral {
+            positive: true,
+            predicate,
+            arguments,
+        },
+        tokens,
+    ))
+}

@@ -1,0 +1,93 @@
+//! Reading a side: its names in the order of the text, each with how many arguments it has.
+
+ghost use Rattle.std.specs.Prelude.{◌≡◌, ◌<◌, ◌++◌, [], ◌∷◌, length};
+ghost use Rattle.sc_reading.specs.Reader as spec;
+ghost use Rattle.sc_reading.specs.declared.token.Sign.TheVariants.{Comma};
+ghost use Rattle.sc_reading.specs.ClauseGrammar.{side, side_within, arguments};
+ghost use Rattle.sc_scan.specs.Told.{Gives};
+ghost use Rattle.sc_grammar.specs.Behind.{behind, sides_behind};
+
+use sc_reading::{Occurrence, Sign, Token};
+use sc_scan::{Stop, a_name, next_is_sign, stop_at, the_sign};
+use sqlite_items::Items;
+use std::alloc::Global;
+
+/// Puts the names of a side behind those in `names`, and answers the tokens behind the side.
+pub fn read_side<'a>(
+    alloc: Global,
+    tokens: &'a [Token],
+    names: &mut Items<Occurrence>,
+) -> Result<&'a [Token], Stop>
+    ensures { Gives (λ x. (names.new, x.now)) result (behind names.old (side tokens.now)) }
+{
+    side_within(alloc, tokens.len(), tokens, names)
+}
+
+/// A side that nests in at most `n` levels.
+#[cycle(side)]
+fn side_within<'a>(
+    alloc: Global,
+    n: usize,
+    tokens: &'a [Token],
+    names: &mut Items<Occurrence>,
+) -> Result<&'a [Token], Stop>
+    ensures { Gives (λ x. (names.new, x.now)) result (behind names.old (side_within n tokens.now)) }
+{
+    if n == 0 {
+        return Err(stop_at(tokens));
+    }
+    let (at, name, rest) = a_name(alloc, tokens)?;
+    let place = names.len();
+    names.push(Occurrence {
+        at,
+        name: Items::new(alloc),
+        arity: 0,
+    })?;
+    let (arity, rest) = arguments(alloc, n - 1, rest, names)?;
+    names.set(place, Occurrence { at, name, arity });
+    Ok(rest)
+}
+
+/// None without an opening parenthesis; answers how many there are.
+#[cycle(side)]
+fn arguments<'a>(
+    alloc: Global,
+    n: usize,
+    tokens: &'a [Token],
+    names: &mut Items<Occurrence>,
+) -> Result<(u64, &'a [Token]), Stop>
+    ensures { Gives (λ x. ((x.0, names.new), x.1.now)) result (sides_behind 0 names.old (arguments (spec.separated Comma (side_within n) n) tokens.now)) }
+{
+    if next_is_sign(Sign::Open, tokens) {
+        let rest = the_sign(Sign::Open, tokens)?;
+        let (arity, rest) = sides(alloc, n, n, rest, names)?;
+        let rest = the_sign(Sign::Close, rest)?;
+        Ok((arity, rest))
+    } else {
+        Ok((0, tokens))
+    }
+}
+
+/// One or more sides, at most `most`, with `,` between them; answers how many.
+#[cycle(side)]
+fn sides<'a>(
+    alloc: Global,
+    n: usize,
+    most: usize,
+    tokens: &'a [Token],
+    names: &mut Items<Occurrence>,
+) -> Result<(u64, &'a [Token]), Stop>
+    ensures { Gives (λ x. ((x.0, names.new), x.1.now)) result (sides_behind 0 names.old (spec.separated Comma (side_within n) most tokens.now)) }
+{
+    let mut count = 0;
+    let mut rest = tokens;
+    for _ in 0..most {
+        let after = side_within(alloc, n, rest, names)?;
+        count += 1;
+        if !next_is_sign(Sign::Comma, after) {
+            return Ok((count, after));
+        }
+        rest = the_sign(Sign::Comma, after)?;
+    }
+    Err(stop_at(rest))
+}

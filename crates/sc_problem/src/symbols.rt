@@ -1,0 +1,105 @@
+//! The symbols of names.
+
+ghost use Rattle.std.specs.Prelude.{◌≡◌, ◌≤◌, [], ◌∷◌, IfOk, OnOk, flat_map};
+ghost use Rattle.sc_term.specs.Symbol.{IsSignature, same_symbol};
+ghost use Rattle.sc_reading.specs.Numbering as spec;
+ghost use Rattle.sc_problem.specs.Names.{symbol_at, argument_symbols, literal_symbols, clause_symbols, MayJoin};
+ghost use Rattle.sc_problem.specs.Once.{with_each};
+
+use crate::variables::is_variable;
+use sc_data::SymId;
+use sc_reading::{Occurrence, WrittenLiteral};
+use sc_term::{Mem, OutOfMemory, Role, SigError, Signature, Symbol};
+use sqlite_items::Items;
+use std::alloc::Global;
+
+/// What every signature keeps.
+fn keeps(sig: &Signature)
+    ensures { IsSignature sig.now }
+{
+    let _ = sig.len();
+}
+
+fn symbol_at(alloc: Global, role: Role, occurrence: &Occurrence) -> Mem<Symbol>
+    requires { occurrence.now.arity ≤ 8 }
+    ensures { IfOk result (λ symbol. symbol ≡ symbol_at role occurrence.now) }
+{
+    Ok(Symbol {
+        name: Items::from_slice(alloc, occurrence.name.as_slice())?,
+        arity: occurrence.arity as u8,
+        role,
+    })
+}
+
+/// The number of the name's symbol, 0 where the signature doesn't have it.
+pub fn symbol_number(
+    alloc: Global,
+    sig: &Signature,
+    role: Role,
+    occurrence: &Occurrence,
+) -> Mem<SymId>
+    ensures { IfOk result (λ id. id ≡ spec.symbol_number sig.now (symbol_at role occurrence.now)) }
+{
+    keeps(sig);
+    if occurrence.arity > 8 {
+        return Ok(SymId(0));
+    }
+    let symbol = symbol_at(alloc, role, occurrence)?;
+    match sig.find(&symbol) {
+        Some(id) => Ok(id),
+        None => Ok(SymId(0)),
+    }
+}
+
+fn add_symbol(alloc: Global, sig: &mut Signature, role: Role, occurrence: &Occurrence) -> Mem<()>
+    requires { MayJoin sig.old (symbol_at role occurrence.now ∷ []) }
+    ensures { OnOk result (sig.new ≡ with_each same_symbol sig.old (symbol_at role occurrence.now ∷ [])) }
+{
+    let symbol = symbol_at(alloc, role, occurrence)?;
+    match sig.add(symbol) {
+        Ok(_) => Ok(()),
+        Err(SigError::OutOfMemory) => Err(OutOfMemory),
+        Err(SigError::TooMany) => unreachable!(),
+    }
+}
+
+fn add_arguments(alloc: Global, sig: &mut Signature, occurrences: &[Occurrence]) -> Mem<()>
+    requires { MayJoin sig.old (argument_symbols occurrences.now) }
+    ensures { OnOk result (sig.new ≡ with_each same_symbol sig.old (argument_symbols occurrences.now)) }
+{
+    for occurrence in occurrences {
+        if !is_variable(occurrence) {
+            add_symbol(alloc, sig, Role::Function, occurrence)?;
+        }
+    }
+    Ok(())
+}
+
+fn add_literal(alloc: Global, sig: &mut Signature, literal: &WrittenLiteral) -> Mem<()>
+    requires { MayJoin sig.old (literal_symbols literal.now) }
+    ensures { OnOk result (sig.new ≡ with_each same_symbol sig.old (literal_symbols literal.now)) }
+{
+    add_symbol(alloc, sig, Role::Predicate, &literal.predicate)?;
+    add_arguments(alloc, sig, literal.arguments.as_slice())
+}
+
+fn add_clause(alloc: Global, sig: &mut Signature, clause: &[WrittenLiteral]) -> Mem<()>
+    requires { MayJoin sig.old (clause_symbols clause.now) }
+    ensures { OnOk result (sig.new ≡ with_each same_symbol sig.old (clause_symbols clause.now)) }
+{
+    for literal in clause {
+        add_literal(alloc, sig, literal)?;
+    }
+    Ok(())
+}
+
+/// The symbols of the clauses join the signature in the order of the text, each that isn't there.
+pub fn add_clauses(alloc: Global, sig: &mut Signature, clauses: &[Items<WrittenLiteral>]) -> Mem<()>
+    requires { MayJoin sig.old (flat_map clause_symbols clauses.now) }
+    ensures { OnOk result (sig.new ≡ with_each same_symbol sig.old (flat_map clause_symbols clauses.now)) }
+{
+    for clause in clauses {
+        add_clause(alloc, sig, clause.as_slice())?;
+    }
+    Ok(())
+}
