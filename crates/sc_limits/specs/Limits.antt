@@ -15,6 +15,6 @@ clauses_told_behind clauses tokens = when (nat_le 10000 clauses && not (closes t
 abbrev pub fault_in_clause : ℕ → List Token → Option Place
 fault_in_clause clauses tokens =
     passed (
-      record { kind = TooMany; told = arity_told problem_bounds } ∷ record { kind = TooMany; told = clauses_told_behind clauses }
-      ∷ record { kind = TooHeavy; told = weight_told problem_bounds } ∷ record { kind = TooDeep; told = depth_told problem_bounds } ∷ [])
+    record { kind = TooMany; told = arity_told problem_bounds } ∷ record { kind = TooMany; told = clauses_told_behind clauses }
+    ∷ record { kind = TooHeavy; told = weight_told problem_bounds } ∷ record { kind = TooDeep; told = depth_told problem_bounds } ∷ [])
     tokens

@@ -83,12 +83,7 @@ fn told(at: Option<u64>, kind: InputKind) -> Option<Place>
 
 impl Reached {
     /// Ends the clause of an open list.
-    fn end_clause(
-        &mut self,
-        alloc: Global,
-        home: Home,
-        sentence: &[Token],
-    ) -> Mem<Option<Place>>
+    fn end_clause(&mut self, alloc: Global, home: Home, sentence: &[Token]) -> Mem<Option<Place>>
         requires { self.old.clauses < usize.MAX }
         ensures reaches { IfOk result (λ told. (p : at_position.Position) → Follows p self.old → p.home ≡ Some home → Reaches (behind_clause p home sentence.now) self.new told) }
         ensures clauses { self.new.clauses ≤ self.old.clauses + 1 }
