@@ -1,5 +1,5 @@
 -- Symbols that join a signature, in the order of the text.
-use Rattle.std.proofs.Common.{◌≡◌, ◌≢◌, ◌∙◌, sym, ap, refl, subst, ℕ, zero, suc, ◌+◌, ◌<◌, ◌≤◌, Bool, true, false, not, ◌||◌, if◌then◌else◌, List, [], ◌∷◌, ◌++◌, map, filter, flat_map, length, get_or, take, drop, slice_get, position, Option, Some, None, arith, length-append}
+use Rattle.std.proofs.Common.{◌≡◌, ◌∙◌, sym, ap, refl, subst, ℕ, suc, ◌+◌, ◌<◌, ◌≤◌, Bool, true, false, not, ◌||◌, if◌then◌else◌, List, [], ◌∷◌, ◌++◌, map, filter, flat_map, length, get_or, take, drop, slice_get, Some, arith, length-append}
 use Rattle.std.specs.List.{list_any, AllByRecursion}
 use Rattle.std.proofs.lemmas.List.{append-nil, map-append, take-append-drop}
 use Rattle.std.proofs.lemmas.List.Elements.{filter-append}
@@ -12,7 +12,7 @@ use Rattle.sc_term.proofs.SymbolLaws.{equal_symbols}
 use Rattle.sc_reading.specs.declared.written.Occurrence.{Occurrence}
 use Rattle.sc_reading.specs.declared.written.WrittenLiteral.{WrittenLiteral}
 use Rattle.sc_reading.specs.Syntax.{WrittenClause}
-use Rattle.sc_reading.specs.Numbering.{is_variable, Found, function_at, found_in, symbol_order, symbols_of, once}
+use Rattle.sc_reading.specs.Numbering.{is_variable, Found, function_at, found_in, symbols_of, once}
 use Rattle.sc_problem.specs.Once.{with_new, with_each}
 use Rattle.sc_problem.specs.Names.{symbol_at, argument_symbols, literal_symbols, clause_symbols, MayJoin}
 use Rattle.sc_problem.proofs.OnceLaws.{Turn, turned, with_each-longer, with_each-room, with_each-once, once-map}
@@ -82,7 +82,7 @@ join_turn f start all i a ys symbols t may so_far = subst (λ ss. MayJoin ss ys)
   arities =
       let front = f (take i all) ++ ys in
       let parts : f all ≡ front ++ f (drop (i + 1) all) =
-          ap f (sym (take-append-drop (i + 1) all)) ∙ t.joins (take (i + 1) all) (drop (i + 1) all) ∙ ap (λ l. l ++ f (drop (i + 1) all)) (turned f all i a ys t) in
+      ap f (sym (take-append-drop (i + 1) all)) ∙ t.joins (take (i + 1) all) (drop (i + 1) all) ∙ ap (λ l. l ++ f (drop (i + 1) all)) (turned f all i a ys t) in
       let small = all_split (λ (s : Symbol). s.arity ≤ 8) front (f (drop (i + 1) all)) (subst (AllByRecursion (λ (s : Symbol). s.arity ≤ 8)) parts may.arities) in
       (all_split (λ (s : Symbol). s.arity ≤ 8) (f (take i all)) ys small.0).1;
 })

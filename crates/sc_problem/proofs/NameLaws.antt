@@ -1,5 +1,5 @@
 -- Variables by their names.
-use Rattle.std.proofs.Common.{◌≡◌, ◌∙◌, sym, ap, refl, ℕ, zero, suc, ◌+◌, ◌-◌, ◌<◌, ◌≤◌, ◌^◌, Bool, true, false, if◌then◌else◌, List, [], ◌∷◌, ◌++◌, map, filter, flat_map, length, get_or, position, Option, Some, None, Bor, arith, cond, not, nat_lt, subst}
+use Rattle.std.proofs.Common.{◌≡◌, ◌∙◌, sym, ap, refl, ℕ, ◌+◌, ◌<◌, ◌≤◌, ◌^◌, Bool, true, false, if◌then◌else◌, List, [], ◌∷◌, ◌++◌, map, filter, flat_map, length, get_or, position, Some, None, Bor, arith, cond, not, nat_lt, subst}
 use Rattle.std.specs.List.{list_any, position_or_len}
 use Rattle.std.proofs.Math.Path.{fun_ext}
 use Rattle.std.proofs.lemmas.List.{append-nil, length-map, map-append}
@@ -9,7 +9,7 @@ use Rattle.sc_reading.specs.declared.written.Occurrence.{Occurrence}
 use Rattle.sc_reading.specs.declared.written.WrittenLiteral.{WrittenLiteral}
 use Rattle.sc_reading.specs.Token.{same_text}
 use Rattle.sc_reading.specs.Syntax.{WrittenClause}
-use Rattle.sc_reading.specs.Numbering.{is_variable, same_name, variables_of, variable_order, number_in, once}
+use Rattle.sc_reading.specs.Numbering.{is_variable, variables_of, variable_order, number_in}
 use Rattle.sc_problem.specs.Once.{with_new, with_each}
 use Rattle.sc_problem.specs.Names.{names_of_variables, variable_names, number_among}
 use Rattle.sc_problem.proofs.OnceLaws.{any-map, once-map, with_each-once, Turn}
@@ -70,7 +70,7 @@ other_turn os i o within item fails =
 pub literal_turn : (ls : WrittenClause) (i : ℕ) (l : WrittenLiteral) → i < length ls → l ≡ get_or ls i l → Turn names_in ls i l (names_of_variables l.arguments)
 literal_turn ls i l within item = record {
   joins = λ ks ms. ap names_of_variables (flat_map-append (λ (k : WrittenLiteral). k.arguments) ks ms)
-  ∙ names_join (flat_map (λ (k : WrittenLiteral). k.arguments) ks) (flat_map (λ (k : WrittenLiteral). k.arguments) ms);
+      ∙ names_join (flat_map (λ (k : WrittenLiteral). k.arguments) ks) (flat_map (λ (k : WrittenLiteral). k.arguments) ms);
   within = within;
   item = item;
   gives = ap names_of_variables (append-nil l.arguments);

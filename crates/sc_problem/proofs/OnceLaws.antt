@@ -85,6 +85,6 @@ with_each-room same f start all i a ys n t room =
     let first = with_each same start (f (take (i + 1) all)) in
     let rest = f (drop (i + 1) all) in
     let whole : with_each same start (f all) ≡ with_each same first rest =
-        ap (λ l. with_each same start (f l)) (sym (take-append-drop (i + 1) all)) ∙ ap (with_each same start) (t.joins (take (i + 1) all) (drop (i + 1) all))
-        ∙ with_each-append same start (f (take (i + 1) all)) rest in
+    ap (λ l. with_each same start (f l)) (sym (take-append-drop (i + 1) all)) ∙ ap (with_each same start) (t.joins (take (i + 1) all) (drop (i + 1) all))
+    ∙ with_each-append same start (f (take (i + 1) all)) rest in
     omega (arith, with_each-longer same first rest, ap length (with_each-turn same f start all i a ys t), ap length whole)

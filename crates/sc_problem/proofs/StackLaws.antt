@@ -1,6 +1,6 @@
 -- A stack of terms is read from its top: the last is the first.
-use Rattle.std.proofs.Common.{◌≡◌, ◌∙◌, sym, ap, refl, ℕ, ◌+◌, ◌-◌, ◌<◌, ◌≤◌, ◌⊎◌, inl, inr, List, [], ◌∷◌, ◌++◌, reverse, map, length, take, drop, Option, Some, None, Bor, arith}
-use Rattle.std.proofs.Math.Seq.{take-append_seam, drop-append_seam, drop-nil}
+use Rattle.std.proofs.Common.{◌≡◌, ◌∙◌, sym, ap, ℕ, ◌-◌, ◌<◌, ◌≤◌, inl, inr, List, [], ◌∷◌, ◌++◌, reverse, map, length, take, drop, Option, Some, None, Bor, arith}
+use Rattle.std.proofs.Math.Seq.{take-append_seam, drop-append_seam}
 use Rattle.std.proofs.Math.ListN.{drop_of_length-le}
 use Rattle.std.proofs.lemmas.Bool.{cases_lt}
 use Rattle.std.proofs.lemmas.List.{reverse-append, reverse-reverse, map-append, length-reverse, length-drop, take-append-drop, take_all}
@@ -15,9 +15,10 @@ use Rattle.sc_reading.specs.Numbering.{terms_of, term_at, symbol_number, functio
 seam : {X : Type 0} (xs a b : List X) (n : ℕ) → xs ≡ a ++ b → n ≡ length b → (reverse b ≡ take n (reverse xs)) × (reverse a ≡ drop n (reverse xs))
 seam xs a b n parts is =
     let whole : reverse xs ≡ reverse b ++ reverse a = ap reverse parts ∙ reverse-append a b in
-    let long : n ≡ length (reverse b) = is ∙ sym (length-reverse b) in
-    (sym (ap (take n) whole ∙ ap (λ k. take k (reverse b ++ reverse a)) long ∙ take-append_seam (reverse b) (reverse a)),
-      sym (ap (drop n) whole ∙ ap (λ k. drop k (reverse b ++ reverse a)) long ∙ drop-append_seam (reverse b) (reverse a)))
+    let long : n ≡ length (reverse b) = is ∙ sym (length-reverse b) in (
+      sym (ap (take n) whole ∙ ap (λ k. take k (reverse b ++ reverse a)) long ∙ take-append_seam (reverse b) (reverse a)),
+      sym (ap (drop n) whole ∙ ap (λ k. drop k (reverse b ++ reverse a)) long ∙ drop-append_seam (reverse b) (reverse a)),
+    )
 
 -- where all but the last n are kept, the last n are the first of the stack; all of them where n is greater
 pub off_top : {X : Type 0} (xs : List X) (n k : ℕ) → k ≡ length xs - n → (reverse (drop k xs) ≡ take n (reverse xs)) × (reverse (take k xs) ≡ drop n (reverse xs))
@@ -39,7 +40,7 @@ pub name_before : (variable : Occurrence → Option ℕ) (symbols : List Symbol)
 name_before variable symbols behind o stack left t so_far rest made =
     let later = terms_of variable symbols (reverse (map (λ p. p.now) behind)) in
     let names : reverse (map (λ p. p.now) (behind ++ o ∷ [])) ≡ o.now ∷ reverse (map (λ p. p.now) behind) =
-        ap reverse (map-append (λ (p : Bor Occurrence). p.now) behind (o ∷ [])) ∙ reverse-append (map (λ p. p.now) behind) (o.now ∷ []) in
+    ap reverse (map-append (λ (p : Bor Occurrence). p.now) behind (o ∷ [])) ∙ reverse-append (map (λ p. p.now) behind) (o.now ∷ []) in
     reverse-append left (t ∷ []) ∙ (λ j. made j ∷ rest j) ∙ (λ j. term_at variable symbols o.now (so_far j) ∷ drop o.now.arity (so_far j)) ∙ sym (ap (terms_of variable symbols) names)
 
 pub from_end : (variable : Occurrence → Option ℕ) (symbols : List Symbol) (behind : List (Bor Occurrence)) (all : List Occurrence) (stack : List Term)

@@ -1,6 +1,6 @@
 -- The place of a symbol in a signature.
-use Rattle.std.proofs.Common.{◌≡◌, ◌≢◌, ◌∙◌, sym, ap, refl, ℕ, zero, suc, ◌<◌, ◌≤◌, Bool, true, false, List, [], ◌∷◌, length, get_or, slice_get, Option, Some, None, IfSome, IfNone, position, unwrap_or, option_map, arith, cond, nat_lt, subst}
-use Rattle.std.specs.List.{AllByRecursion, IsDistinct, AllPairs, position_or_len}
+use Rattle.std.proofs.Common.{◌≡◌, ◌≢◌, ◌∙◌, sym, ap, refl, ℕ, zero, suc, ◌<◌, ◌≤◌, Bool, true, false, List, [], ◌∷◌, length, get_or, slice_get, Option, Some, None, position, unwrap_or, arith, cond, nat_lt, subst}
+use Rattle.std.specs.List.{AllByRecursion, position_or_len}
 use Rattle.std.specs.Bool.{Decides}
 use Rattle.std.proofs.lemmas.Bool.{lt-ltb}
 use Rattle.std.proofs.lemmas.Option.{get_or_from_slice_get, slice_get_within}
@@ -25,7 +25,7 @@ place_of symbols s i is at =
     let there : get_or symbols i s ≡ s = get_or_from_slice_get symbols i s s at in
     let apart = AllPairs-from_IsDistinct decides symbols is.distinct in
     let before : (k : ℕ) → k < i → same_symbol s (get_or symbols k s) ≡ false = λ k below.
-        no (same_symbol s (get_or symbols k s)) (λ e. apart k i s below within (sym (equal_symbols s (get_or symbols k s) e) ∙ sym there)) in
+    no (same_symbol s (get_or symbols k s)) (λ e. apart k i s below within (sym (equal_symbols s (get_or symbols k s) e) ∙ sym there)) in
     place (same_symbol s) symbols i within
     (position_or_len_is (same_symbol s) symbols i s (omega arith) before (λ _. ap (same_symbol s) there ∙ same_as_itself s))
   where

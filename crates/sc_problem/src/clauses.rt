@@ -29,7 +29,12 @@ pub fn clause_from(alloc: Global, sig: &Signature, written: &[WrittenLiteral]) -
 }
 
 /// The clauses that are written join those that are there.
-pub fn push_clauses(alloc: Global, sig: &Signature, written: &[Items<WrittenLiteral>], clauses: &mut Items<Clause>) -> Mem<()>
+pub fn push_clauses(
+    alloc: Global,
+    sig: &Signature,
+    written: &[Items<WrittenLiteral>],
+    clauses: &mut Items<Clause>,
+) -> Mem<()>
     requires { AllByRecursion HasFewVariables written.now }
     ensures { OnOk result (clauses.new ≡ clauses.old ++ map (clause_of sig.now) written.now) }
 {
@@ -40,7 +45,10 @@ pub fn push_clauses(alloc: Global, sig: &Signature, written: &[Items<WrittenLite
 }
 
 /// The symbols of the clauses, numbered by first occurrence, and the clauses over them.
-pub fn number_clauses(alloc: Global, written: &[Items<WrittenLiteral>]) -> Mem<(Signature, Items<Clause>)>
+pub fn number_clauses(
+    alloc: Global,
+    written: &[Items<WrittenLiteral>],
+) -> Mem<(Signature, Items<Clause>)>
     requires symbols { IsSignature (symbols_of written.now) }
     requires variables { AllByRecursion HasFewVariables written.now }
     ensures signature { IfOk result (λ r. r.0 ≡ symbols_of written.now) }

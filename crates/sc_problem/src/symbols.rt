@@ -6,8 +6,8 @@ ghost use Rattle.sc_reading.specs.Numbering as spec;
 ghost use Rattle.sc_problem.specs.Names.{symbol_at, argument_symbols, literal_symbols, clause_symbols, MayJoin};
 ghost use Rattle.sc_problem.specs.Once.{with_each};
 
-use sc_data::SymId;
 use crate::variables::is_variable;
+use sc_data::SymId;
 use sc_reading::{Occurrence, WrittenLiteral};
 use sc_term::{Mem, OutOfMemory, Role, SigError, Signature, Symbol};
 use sqlite_items::Items;
@@ -32,7 +32,12 @@ fn symbol_at(alloc: Global, role: Role, occurrence: &Occurrence) -> Mem<Symbol>
 }
 
 /// The number of the name's symbol, 0 where the signature doesn't have it.
-pub fn symbol_number(alloc: Global, sig: &Signature, role: Role, occurrence: &Occurrence) -> Mem<SymId>
+pub fn symbol_number(
+    alloc: Global,
+    sig: &Signature,
+    role: Role,
+    occurrence: &Occurrence,
+) -> Mem<SymId>
     ensures { IfOk result (λ id. id ≡ spec.symbol_number sig.now (symbol_at role occurrence.now)) }
 {
     keeps(sig);

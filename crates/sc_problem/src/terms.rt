@@ -33,7 +33,12 @@ fn take_off(stack: &mut Vec<Term>, count: u64) -> Mem<Items<Term>>
 }
 
 /// The terms that the names are when they are written one after another, each before its arguments.
-pub fn terms_from<N: Numbering>(alloc: Global, variables: &N, sig: &Signature, occurrences: &[Occurrence]) -> Mem<Items<Term>>
+pub fn terms_from<N: Numbering>(
+    alloc: Global,
+    variables: &N,
+    sig: &Signature,
+    occurrences: &[Occurrence],
+) -> Mem<Items<Term>>
     ensures { IfOk result (λ terms. terms ≡ terms_of (N.number variables.now) sig.now occurrences.now) }
 {
     let mut stack = Vec::new(alloc);
@@ -50,7 +55,12 @@ pub fn terms_from<N: Numbering>(alloc: Global, variables: &N, sig: &Signature, o
 }
 
 /// The literal that is written.
-pub fn literal_from<N: Numbering>(alloc: Global, variables: &N, sig: &Signature, written: &WrittenLiteral) -> Mem<Literal>
+pub fn literal_from<N: Numbering>(
+    alloc: Global,
+    variables: &N,
+    sig: &Signature,
+    written: &WrittenLiteral,
+) -> Mem<Literal>
     ensures { IfOk result (λ literal. literal ≡ literal_of (N.number variables.now) sig.now written.now) }
 {
     Ok(Literal {

@@ -13,12 +13,12 @@ loop-occurrence-preserved g c =
     let o = c.in-Some.occurrence in
     let later = reverse c.loop-occurrence.stack.items in
     let made : c.match-number.term ≡ term_at variable symbols o.now later =
-        elim c.match-number.branch [
-          | in-Some-number w ↦ w.term-is ∙ variable_term variable symbols o.now later w.in-Some-number.number w.in-Some-number.ensures
-          | in-None-number+in_ok-symbol_number-in-None-number w ↦
-              w.term-is ∙ symbol_term variable symbols o.now later c.in_ok-args.args (w.in_ok-symbol_number-in-None-number).field-0
-              w.in-None-number.ensures (w.in_ok-symbol_number-in-None-number).ensures c.in_ok-args.ensures.taken
-        ] in
+    elim c.match-number.branch [
+      | in-Some-number w ↦ w.term-is ∙ variable_term variable symbols o.now later w.in-Some-number.number w.in-Some-number.ensures
+      | in-None-number+in_ok-symbol_number-in-None-number w ↦
+          w.term-is ∙ symbol_term variable symbols o.now later c.in_ok-args.args (w.in_ok-symbol_number-in-None-number).field-0
+          w.in-None-number.ensures (w.in_ok-symbol_number-in-None-number).ensures c.in_ok-args.ensures.taken
+    ] in
     rw c.in_ok-push.ensures.items
     (name_before variable symbols c.loop-occurrence.yielded o c.loop-occurrence.stack.items c.take_off.new.stack.items c.match-number.term
     c.loop-occurrence.invariant c.in_ok-args.ensures.left made)
