@@ -1,12 +1,11 @@
 -- What is lost where the numbers of items are clipped: nothing of a number of at most ten digits, and of a problem's
 -- items nothing but how large a greater one is.
-use Rattle.std.proofs.Common.{◌≡◌, ◌∙◌, sym, ap, refl, ℕ, zero, suc, ◌<◌, ◌≤◌, min, Bool, true, false, cond, List, [], ◌∷◌, ◌++◌, map, flat_map, ℤ, pos, negsuc, nat_abs, neg_ℤ, arith}
+use Rattle.std.proofs.Common.{◌≡◌, ◌∙◌, sym, ap, refl, ℕ, zero, suc, ◌<◌, min, Bool, true, false, cond, List, [], ◌∷◌, ◌++◌, map, flat_map, ℤ, pos, negsuc, nat_abs, neg_ℤ, arith}
 use Rattle.std.proofs.Math.Nat.{min-eq_left}
 use Rattle.std.proofs.lemmas.List.Concat.{flat_map-cons}
 use Rattle.sc_reading.specs.declared.settings.Home.{Home}
 use Rattle.sc_reading.specs.Token.{same_text}
 use Rattle.sc_reading.specs.Syntax.{WrittenClause}
-use Rattle.sc_reading.specs.Settings.{effective_flags}
 use Rattle.sc_reading.specs.ProblemGrammar.{Item, Setting, Assignment, Listing}
 use Rattle.sc_reading.specs.Problem.{last_setting, last_value, listed, listed_clauses}
 use Rattle.sc_grammar.specs.Items.{beyond, clipped, with_clipped}

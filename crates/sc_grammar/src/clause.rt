@@ -12,7 +12,8 @@ use sc_scan::{Stop, next_is_sign, next_is_word, stop_at, the_sign};
 use sqlite_items::Items;
 use std::alloc::Global;
 
-/// A clause as it is written, and the tokens behind it: no literal for `$F`, else one or more with `|` between them.
+/// A clause as it is written, and the tokens behind it: no literal for `$F`, else one or more with `|` between them. It
+/// stops for want of memory, or at the first token that `clause` doesn't allow.
 pub fn read_clause(
     alloc: Global,
     tokens: &[Token],

@@ -8,7 +8,7 @@ ghost use Rattle.sc_grammar.specs.Items.{item_of, items_of, clipped_item, clippe
 
 use crate::clause::read_clause;
 use crate::number::read_number;
-use crate::words::{ASSIGN, CLEAR, END_OF_LIST, LIST, SET, Vocabulary, a_listed_name};
+use crate::words::{ASSIGN, CLEAR, END_OF_LIST, PROOF, RUN, SET, Vocabulary, a_listed_name};
 use sc_reading::{Sign, Token, WrittenLiteral};
 use sc_scan::{Stop, is_word, next_is_word, stop_at, the_sign, the_word};
 use sqlite_items::Items;
@@ -30,6 +30,7 @@ pub enum Item {
     Listing(Name, Items<Items<WrittenLiteral>>),
 }
 
+/// `)` and `.`
 fn the_close(tokens: &[Token]) -> Result<&[Token], Stop>
     ensures { Gives (λ x. (tt, x.now)) result (of.the_close tokens.now) }
 {
@@ -72,8 +73,8 @@ fn ended_clause(alloc: Global, tokens: &[Token]) -> Result<(Items<WrittenLiteral
     ensures { Gives (λ x. (x.0, x.1.now)) result (of.ended_clause tokens.now) }
 {
     let (clause, rest) = read_clause(alloc, tokens)?;
-    let rest = the_sign(Sign::Stop, rest)?;
-    Ok((clause, rest))
+    let after = the_sign(Sign::Stop, rest)?;
+    Ok((clause, after))
 }
 
 fn at_end_of_list(tokens: &[Token]) -> bool
@@ -119,6 +120,7 @@ fn listing(alloc: Global, tokens: &[Token]) -> Result<(Item, &[Token]), Stop>
     Ok((Item::Listing(name_at(alloc, at, text)?, clauses), rest))
 }
 
+/// What stands behind the word of an item.
 fn item_named<'a>(
     alloc: Global,
     word: &[u8],
@@ -137,7 +139,8 @@ fn item_named<'a>(
     }
 }
 
-/// An item, and the tokens behind it.
+/// An item, and the tokens behind it. A value of more than ten digits is answered as the least such number of its
+/// sign.
 pub fn read_item(alloc: Global, tokens: &[Token]) -> Result<(Item, &[Token]), Stop>
     ensures { Gives (λ x. (item_of x.0, x.1.now)) result (told_item tokens.now) }
 {
@@ -151,8 +154,7 @@ fn ends(before_section: bool, tokens: &[Token]) -> bool
 {
     match tokens {
         [] => true,
-        [t, ..] => before_section
-            && (is_word(b"proof".as_slice(), t) || is_word(b"run".as_slice(), t)),
+        [t, ..] => before_section && (is_word(PROOF.as_bytes(), t) || is_word(RUN.as_bytes(), t)),
     }
 }
 
@@ -180,8 +182,8 @@ fn items_until(
     }
 }
 
-/// The items of a problem that ends with the tokens. A value of more than ten digits is answered as the least such
-/// number of its sign.
+/// The items of a problem that ends with the tokens, and no tokens. A value of more than ten digits is answered as the
+/// least such number of its sign. It stops for want of memory, or at the first token that `problem` doesn't allow.
 pub fn read_problem(alloc: Global, tokens: &[Token]) -> Result<(Items<Item>, &[Token]), Stop>
     ensures { Gives (λ x. (items_of x.0, x.1.now)) result (clipped_items (of.problem tokens.now)) }
 {
@@ -189,7 +191,8 @@ pub fn read_problem(alloc: Global, tokens: &[Token]) -> Result<(Items<Item>, &[T
 }
 
 /// The items of a problem that ends with the tokens or before a word `proof` or `run` in an item's place, and the
-/// tokens from there. A value of more than ten digits is answered as the least such number of its sign.
+/// tokens from there. A value of more than ten digits is answered as the least such number of its sign. It stops for
+/// want of memory, or at the first token that `items` doesn't allow.
 pub fn read_items(alloc: Global, tokens: &[Token]) -> Result<(Items<Item>, &[Token]), Stop>
     ensures { Gives (λ x. (items_of x.0, x.1.now)) result (clipped_items (of.items tokens.now)) }
 {

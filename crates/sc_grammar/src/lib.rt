@@ -11,6 +11,8 @@ mod item;
 mod literal;
 mod number;
 mod side;
+#[cfg(test)]
+mod tests;
 mod words;
 
 pub use clause::read_clause;

@@ -17,9 +17,13 @@ pub const CLEAR: &str = "clear";
 
 pub const ASSIGN: &str = "assign";
 
-pub const LIST: &str = "list";
+const LIST: &str = "list";
 
 pub const END_OF_LIST: &str = "end_of_list";
+
+pub const PROOF: &str = "proof";
+
+pub const RUN: &str = "run";
 
 const ITEMS: &[&str] = &[SET, CLEAR, ASSIGN, LIST];
 

@@ -3,10 +3,17 @@
 //! What is refused here and there is decided by the next token alone.
 #![tactic(auto)]
 
+mod bytes;
 mod next;
+mod pieces;
+mod scanner;
 mod stop;
 
 pub use next::{
     a_name, a_word, is_sign, is_word, next_is_sign, next_is_word, stop_at, the_sign, the_word,
 };
+pub use scanner::{scan, scan_problem};
 pub use stop::Stop;
+
+#[cfg(test)]
+mod tests;

@@ -121,7 +121,8 @@ pub fn the_word<'a>(name: &[u8], tokens: &'a [Token]) -> Result<&'a [Token], Sto
     }
 }
 
-fn is_falsum(text: &[u8]) -> bool
+/// Whether the word is `$F`.
+pub fn is_falsum(text: &[u8]) -> bool
     ensures { result ≡ of.same_text (codes "$F") text.now }
 {
     b"$F".as_slice() == text

@@ -1,0 +1,6 @@
+pub mod Assignments
+pub mod Agreement
+pub mod Width
+pub mod Symbols
+pub mod Structures
+pub mod ClaimLaws

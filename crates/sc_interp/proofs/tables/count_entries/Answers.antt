@@ -1,0 +1,10 @@
+use Rattle.std.proofs.Common.{◌≡◌, ◌∙◌, sym, ap, ◌+◌, ◌≤◌, ◌*◌, arith}
+use Rattle.sc_interp.proofs.Symbols.{counted_behind}
+use Rattle.sc_interp.proofs.tables.count_entries.Goals as goal
+
+pub loop-number-preserved : goal.loop-number-preserved
+loop-number-preserved c =
+    let more = counted_behind c.args.size c.args.sig.now c.loop-number.number c.symbol-symbol.result.now c.loop-number.auto.number c.symbol-symbol.ensures in (
+      omega (arith, more, c.loop-number.invariant.0, c.table_len.ensures.value),
+      omega (arith, c.loop-number.invariant.1, c.table_len.ensures.bound),
+    )

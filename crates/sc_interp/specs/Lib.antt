@@ -1,0 +1,6 @@
+pub mod Structure
+pub mod Assignments
+pub mod Tables
+pub mod Marks
+pub mod Versions
+pub mod ClaimErrors

@@ -1,0 +1,350 @@
+//! What is counted of a clause so far: its weight, the depth of its last atom, and the commas of the parentheses
+//! that are open.
+
+ghost use Rattle.std.specs.Prelude.{◌≡◌, ◌≤◌, ◌<◌, ◌+◌, ◌++◌, ◌∷◌, [], ℕ, List, OnOk, IfOk, true, false, nat_lt, nat_le, reverse, if◌then◌else◌};
+ghost use Rattle.sc_reading.specs.Token.{is_sign, at_of};
+ghost use Rattle.sc_reading.specs.declared.token.Sign.TheVariants.{Open};
+ghost use Rattle.sc_reading.specs.declared.token.Token.{Token};
+ghost use Rattle.sc_reading.specs.Measures as spec;
+ghost use Rattle.sc_reading.specs.ClauseGrammar as grammar;
+ghost use Rattle.sc_reading.specs.ClauseLimits as limit;
+ghost use Rattle.sc_reading.specs.ProblemLimits.{problem_bounds};
+ghost use Rattle.sc_limits.specs.Counted.{AtomCounted, AtomGrows, LiteralCounted, Counted, low};
+
+use crate::bounds::{MOST_ARGUMENTS, MOST_DEPTH, MOST_WEIGHT};
+use sc_reading::{Sign, Token};
+use sc_scan::is_sign;
+use sc_term::Mem;
+use sqlite_items::Items;
+use std::alloc::Global;
+
+/// Where the next token of a literal stands.
+#[derive(Clone, Copy, Debug, PartialEq, Eq)]
+pub enum Part {
+    /// At the start of the literal.
+    Start,
+    /// Behind its `-`.
+    Signed,
+    /// In the atom, or behind the parenthesis round an equation.
+    Inside,
+}
+
+/// What is counted of an atom so far.
+#[derive(Clone, Copy, Debug)]
+pub struct AtomCount {
+    /// How many parentheses are open.
+    pub around: usize,
+    /// The greatest level of a word.
+    pub level: usize,
+    /// Whether `=` or `!=` occurred.
+    pub equality: bool,
+}
+
+/// What is counted of the last literal so far.
+#[derive(Clone, Copy, Debug)]
+pub struct LiteralCount {
+    pub part: Part,
+    pub atom: AtomCount,
+}
+
+/// What is counted of a clause so far.
+#[derive(Debug, Drop)]
+pub struct ClauseCount {
+    pub weight: usize,
+    pub literal: LiteralCount,
+    /// How many commas stand in each parenthesis that is open, the outermost first; 8 for more.
+    pub commas: Items<u8>,
+}
+
+fn is_equality(token: &Token) -> bool
+    ensures { result ≡ grammar.is_equality token.now }
+{
+    match token {
+        Token::Punctuation(_, Sign::Equal) => true,
+        Token::Punctuation(_, Sign::Unequal) => true,
+        _ => false,
+    }
+}
+
+fn has_weight(token: &Token) -> bool
+    ensures { result ≡ spec.has_weight token.now }
+{
+    match token {
+        Token::Word(..) => true,
+        _ => is_equality(token),
+    }
+}
+
+impl AtomCount {
+    fn new() -> AtomCount
+        ensures { AtomCounted [] result }
+    {
+        AtomCount {
+            around: 0,
+            level: 0,
+            equality: false,
+        }
+    }
+
+    /// With one token more.
+    fn with(self, token: &Token) -> AtomCount
+        requires { self.around < usize.MAX }
+        ensures counted { AtomGrows token.now self result }
+        ensures around { result.around ≤ self.around + 1 }
+    {
+        let AtomCount {
+            around,
+            level,
+            equality,
+        } = self;
+        match token {
+            Token::Word(..) => AtomCount {
+                around,
+                level: level.max(around + 1),
+                equality,
+            },
+            Token::Punctuation(_, Sign::Open) => AtomCount {
+                around: around + 1,
+                level,
+                equality,
+            },
+            Token::Punctuation(_, Sign::Close) => AtomCount {
+                around: around.saturating_sub(1),
+                level,
+                equality,
+            },
+            _ => AtomCount {
+                around,
+                level,
+                equality: equality || is_equality(token),
+            },
+        }
+    }
+}
+
+impl LiteralCount {
+    fn new() -> LiteralCount
+        ensures counted { LiteralCounted [] result }
+        ensures around { result.atom.around ≡ 0 }
+    {
+        LiteralCount {
+            part: Part::Start,
+            atom: AtomCount::new(),
+        }
+    }
+
+    /// With one token more.
+    fn with(self, token: &Token) -> LiteralCount
+        requires { self.atom.around < usize.MAX }
+        ensures counted { (tokens : List Token) → LiteralCounted tokens self → LiteralCounted (tokens ++ token.now ∷ []) result }
+        ensures around { result.atom.around ≤ self.atom.around + 1 }
+    {
+        if is_sign(Sign::Bar, token) {
+            return LiteralCount::new();
+        }
+        let atom = self.atom;
+        match self.part {
+            Part::Start => {
+                if is_sign(Sign::Minus, token) {
+                    LiteralCount {
+                        part: Part::Signed,
+                        atom,
+                    }
+                } else {
+                    begun(atom, token)
+                }
+            }
+            Part::Signed => begun(atom, token),
+            Part::Inside => LiteralCount {
+                part: Part::Inside,
+                atom: atom.with(token),
+            },
+        }
+    }
+}
+
+/// A literal whose sign, if it has one, is read, with one token more.
+fn begun(atom: AtomCount, token: &Token) -> LiteralCount
+    requires { atom.around < usize.MAX }
+    ensures part { result.part ≡ Part.Inside }
+    ensures bracket { is_sign Open token.now ≡ true → result.atom ≡ atom }
+    ensures counted { is_sign Open token.now ≡ false → AtomGrows token.now atom result.atom }
+    ensures around { result.atom.around ≤ atom.around + 1 }
+{
+    let atom = if is_sign(Sign::Open, token) {
+        atom
+    } else {
+        atom.with(token)
+    };
+    LiteralCount {
+        part: Part::Inside,
+        atom,
+    }
+}
+
+/// A parenthesis more is open.
+fn open_parenthesis(commas: &mut Items<u8>) -> Mem<()>
+    ensures { OnOk result ((before : List ℕ) → commas.old ≡ reverse (low before) → commas.new ≡ reverse (low (0 ∷ before))) }
+{
+    commas.push(0)?;
+    Ok(())
+}
+
+/// The innermost parenthesis is closed, if one is open.
+fn close_parenthesis(commas: &mut Items<u8>)
+    ensures { (before : List ℕ) → commas.old ≡ reverse (low before) → commas.new ≡ reverse (low (spec.without_innermost before)) }
+{
+    let _ = commas.pop();
+}
+
+/// A comma more stands in the innermost parenthesis, if one is open.
+fn count_comma(commas: &mut Items<u8>) -> Mem<()>
+    ensures { OnOk result ((before : List ℕ) → commas.old ≡ reverse (low before) → commas.new ≡ reverse (low (spec.one_more before))) }
+{
+    match commas.pop() {
+        Some(count) => {
+            commas.push(one_more(count))?;
+            Ok(())
+        }
+        None => Ok(()),
+    }
+}
+
+/// The commas of the open parentheses, with one token more.
+fn count_commas(commas: &mut Items<u8>, token: &Token) -> Mem<()>
+    ensures { OnOk result ((before : List ℕ) → commas.old ≡ reverse (low before) → commas.new ≡ reverse (low (spec.commas_behind token.now before))) }
+{
+    if is_sign(Sign::Open, token) {
+        open_parenthesis(commas)
+    } else if is_sign(Sign::Close, token) {
+        close_parenthesis(commas);
+        Ok(())
+    } else if is_sign(Sign::Comma, token) {
+        count_comma(commas)
+    } else {
+        Ok(())
+    }
+}
+
+fn one_more(count: u8) -> u8
+    ensures { result ≡ (if nat_lt count 8 then count + 1 else count) }
+{
+    if count < MOST_ARGUMENTS {
+        count + 1
+    } else {
+        count
+    }
+}
+
+fn last_at(tokens: &[Token]) -> Option<u64>
+    ensures { result ≡ limit.last_at tokens.now }
+{
+    match tokens {
+        [.., last] => Some(at_of(last)),
+        [] => None,
+    }
+}
+
+fn at_of(token: &Token) -> u64
+    ensures { result ≡ at_of token.now }
+{
+    match token {
+        Token::Word(at, _) => *at,
+        Token::Punctuation(at, _) => *at,
+        Token::Refused(at, _) => *at,
+    }
+}
+
+/// Where the first of the tokens begins.
+pub fn first_at(tokens: &[Token]) -> Option<u64>
+    ensures { result ≡ limit.first_at tokens.now }
+{
+    match tokens {
+        [first, ..] => Some(at_of(first)),
+        [] => None,
+    }
+}
+
+impl ClauseCount {
+    /// Of no token.
+    pub fn new(alloc: Global) -> ClauseCount
+        ensures counted { Counted [] result }
+        ensures weight { result.weight ≡ 0 }
+        ensures around { result.literal.atom.around ≡ 0 }
+    {
+        ClauseCount {
+            weight: 0,
+            literal: LiteralCount::new(),
+            commas: Items::new(alloc),
+        }
+    }
+
+    /// Counts one token more.
+    pub fn add(&mut self, token: &Token) -> Mem<()>
+        requires weight { self.old.weight < usize.MAX }
+        requires around { self.old.literal.atom.around < usize.MAX }
+        ensures counted { OnOk result ((tokens : List Token) → Counted tokens self.old → Counted (tokens ++ token.now ∷ []) self.new) }
+        ensures weight { OnOk result (self.new.weight ≤ self.old.weight + 1) }
+        ensures around { OnOk result (self.new.literal.atom.around ≤ self.old.literal.atom.around + 1) }
+    {
+        count_commas(&mut self.commas, token)?;
+        self.literal = self.literal.with(token);
+        if has_weight(token) {
+            self.weight += 1;
+        }
+        Ok(())
+    }
+
+    fn has_ninth_argument(&self) -> bool
+        ensures { (tokens : List Token) → Counted tokens self.now → result ≡ nat_le 8 (spec.arguments_so_far tokens) }
+    {
+        match self.commas.as_slice() {
+            [.., innermost] => *innermost == MOST_ARGUMENTS,
+            [] => false,
+        }
+    }
+
+    fn is_too_deep(&self) -> bool
+        ensures { (tokens : List Token) → Counted tokens self.now → result ≡ nat_lt 256 (spec.depth_so_far tokens) }
+    {
+        let atom = self.literal.atom;
+        if atom.equality {
+            MOST_DEPTH <= atom.level
+        } else {
+            MOST_DEPTH < atom.level
+        }
+    }
+
+    /// Where the `,` before an argument too many stands.
+    pub fn arity_told(&self, clause: &[Token]) -> Option<u64>
+        ensures { Counted clause.now self.now → result ≡ limit.arity_told problem_bounds clause.now }
+    {
+        if self.has_ninth_argument() {
+            last_at(clause)
+        } else {
+            None
+        }
+    }
+
+    /// Where the word, `=` or `!=` stands that makes the weight too great.
+    pub fn weight_told(&self, clause: &[Token]) -> Option<u64>
+        ensures { Counted clause.now self.now → result ≡ limit.weight_told problem_bounds clause.now }
+    {
+        if MOST_WEIGHT < self.weight {
+            last_at(clause)
+        } else {
+            None
+        }
+    }
+
+    /// Where the token stands that makes the atom too deep.
+    pub fn depth_told(&self, clause: &[Token]) -> Option<u64>
+        ensures { Counted clause.now self.now → result ≡ limit.depth_told problem_bounds clause.now }
+    {
+        if self.is_too_deep() {
+            last_at(clause)
+        } else {
+            None
+        }
+    }
+}

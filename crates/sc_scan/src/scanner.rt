@@ -1,0 +1,60 @@
+//! All tokens of a text.
+
+ghost use Rattle.std.specs.Prelude.{◌≡◌, ◌≤◌, length, map, IfOk};
+ghost use Rattle.sc_reading.specs.Tokens.{tokens_behind};
+ghost use Rattle.sc_reading.specs.Reading.{problem_tokens, without_colon};
+ghost use Rattle.sc_scan.specs.Rest.{token_as};
+
+use crate::pieces::next_token;
+use sc_reading::{InputKind, Sign, Token};
+use sc_term::Mem;
+use sqlite_items::Items;
+use std::alloc::Global;
+
+/// The token, refused where it is a `:` and that is none here.
+fn allowed(has_colon: bool, token: Token) -> Token
+    ensures { result ≡ token_as has_colon token }
+{
+    match token {
+        Token::Punctuation(at, Sign::Colon) if !has_colon => {
+            Token::Refused(at, InputKind::Unsupported)
+        }
+        token => token,
+    }
+}
+
+#[tactic(auto, using(crate::proofs::Scanning::turns))]
+fn scan_with(alloc: Global, has_colon: bool, bytes: &[u8], from: usize) -> Mem<Items<Token>>
+    requires { from ≤ length bytes.now }
+    ensures { IfOk result (λ ts. ts ≡ map (token_as has_colon) (tokens_behind from bytes.now)) }
+{
+    let total = bytes.len();
+    let (_, mut rest) = bytes.split_at(from);
+    // Room for a token a byte, which is the most there can be: only what is filled takes up memory, and nothing is
+    // moved when it grows.
+    let mut tokens = Items::from_vec(Vec::with_capacity(alloc, rest.len())?);
+    while !rest.is_empty() {
+        let (found, behind) = next_token(alloc, total, rest)?;
+        if let Some(token) = found {
+            tokens.push(allowed(has_colon, token))?;
+        }
+        rest = behind;
+    }
+    Ok(tokens)
+}
+
+/// The tokens of the bytes from one on, white space and comments left out, each with its byte. What makes no token
+/// stands as one that is refused, with the kind of that fault. Time and memory are in proportion to the bytes.
+pub fn scan(alloc: Global, bytes: &[u8], from: usize) -> Mem<Items<Token>>
+    requires { from ≤ length bytes.now }
+    ensures { IfOk result (λ ts. ts ≡ tokens_behind from bytes.now) }
+{
+    scan_with(alloc, true, bytes, from)
+}
+
+/// The tokens of a problem, where `:` is none and refused.
+pub fn scan_problem(alloc: Global, bytes: &[u8]) -> Mem<Items<Token>>
+    ensures { IfOk result (λ ts. ts ≡ problem_tokens bytes.now) }
+{
+    scan_with(alloc, false, bytes, 0)
+}

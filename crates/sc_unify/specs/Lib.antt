@@ -1,0 +1,4 @@
+pub mod Bindings
+pub mod Search
+pub mod Equations
+pub mod Unifiers
