@@ -73,9 +73,9 @@ satisfied size tables c values wide h a elements =
     let n = length values in
     let others = map a (range_with_len 0 n) in
     let there : holds_at size tables c others ≡ true
-        = h others (length-map-range_with_len a 0 n)
-        (λ k d lt. let at : get_or others k d ≡ a k = get_or-map-range_with_len a 0 n k k d (subst (λ m. k < m) (length-map-range_with_len a 0 n) lt) (omega arith) in
-        subst (λ v. v < size) (sym at) (elements k)) in
+    = h others (length-map-range_with_len a 0 n)
+    (λ k d lt. let at : get_or others k d ≡ a k = get_or-map-range_with_len a 0 n k k d (subst (λ m. k < m) (length-map-range_with_len a 0 n) lt) (omega arith) in
+    subst (λ v. v < size) (sym at) (elements k)) in
     sym (literals_agree (tables_of_size size tables) (slice_index others) a n (λ k lt. get_or-map-range_with_len a 0 n k k 0 lt (omega arith))
     c.literals (under 0 (map literal_width c.literals) n wide)) ∙ there
 

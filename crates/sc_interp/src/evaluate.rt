@@ -62,7 +62,9 @@ fn place(size: u8, tables: &[Table], values: &[u8], args: &[Term]) -> usize
     let mut at: usize = 0;
     for arg in args {
         let value = value(size, tables, values, arg);
-        at = at.saturating_mul(size as usize).saturating_add(value as usize);
+        at = at
+            .saturating_mul(size as usize)
+            .saturating_add(value as usize);
     }
     at
 }
@@ -74,7 +76,8 @@ fn atom_holds(size: u8, tables: &[Table], values: &[u8], pred: SymId, args: &[Te
 {
     if pred.0 == 0 {
         return match args {
-            [left, right] => value(size, tables, values, left) == value(size, tables, values, right),
+            [left, right] => value(size, tables, values, left)
+                == value(size, tables, values, right),
             _ => false,
         };
     }

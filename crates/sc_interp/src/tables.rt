@@ -7,8 +7,8 @@ ghost use Rattle.sc_interp.specs.Tables.{IsCauseOfTables};
 use crate::copies::copy_tables;
 use crate::evaluate::entry;
 use crate::table::Table;
-use sc_term::{Mem, OutOfMemory, Signature};
 use sc_data::SymId;
+use sc_term::{Mem, OutOfMemory, Signature};
 use sqlite_items::Items;
 use std::alloc::Global;
 use std::marker::Model;
@@ -170,6 +170,11 @@ impl Tables {
         requires in_range { MayHold self.old sym value }
         ensures { self.new ≡ with_entry self.old sym place value }
     {
-        set_entry(self.tables.as_mut_slice(), sym.0 as usize - 1, place as usize, value);
+        set_entry(
+            self.tables.as_mut_slice(),
+            sym.0 as usize - 1,
+            place as usize,
+            value,
+        );
     }
 }

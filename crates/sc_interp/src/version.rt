@@ -59,7 +59,12 @@ impl Version {
         let Ok(mut values) = vec![in alloc; 0u8; widest(claims.as_slice())] else {
             return Err(ClaimError::OutOfMemory);
         };
-        match first_false(tables.size(), tables.tables(), claims.as_slice(), values.as_mut_slice()) {
+        match first_false(
+            tables.size(),
+            tables.tables(),
+            claims.as_slice(),
+            values.as_mut_slice(),
+        ) {
             Some(claim) => Err(ClaimError::False { claim }),
             None => Ok(Version { tables, claims }),
         }

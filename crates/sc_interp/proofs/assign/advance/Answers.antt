@@ -16,10 +16,10 @@ returns-then-value-size-clause-next c = λ _.
 pub loop-value-preserved : goal.loop-value-preserved
 loop-value-preserved c =
     let now : IsCarried c.loop-value.value-index c.args.values.now c.loop-value.values
-        = record { is = c.loop-value.invariant.carried; within = c.loop-value-test.true } in
+    = record { is = c.loop-value.invariant.carried; within = c.loop-value-test.true } in
     let there : c.loop-value.value-index < length c.loop-value.values = omega (arith, c.loop-value.auto.values, c.loop-value-test.true) in
     let greatest : get_or c.loop-value.values c.loop-value.value-index 0 + 1 ≡ c.args.size =
-        let below = c.loop-value.invariant.elements c.loop-value.value-index 0 there in omega (arith, below, c.if-value-size.false, c.requires.size) in
+    let below = c.loop-value.invariant.elements c.loop-value.value-index 0 there in omega (arith, below, c.if-value-size.false, c.requires.size) in
     let some : 0 < c.args.size = omega (arith, c.requires.size) in
     record {
       elements = All-set (λ v. v < c.args.size) c.loop-value.values c.loop-value.value-index 0 some c.loop-value.invariant.elements;

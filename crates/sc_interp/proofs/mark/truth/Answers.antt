@@ -18,7 +18,7 @@ returns-clause-mark c =
     let power : c.size-size.result ^ c.full_width-width.result ≡ assignments c.args.t.now.size c.args.c.now = λ j. c.size-size.ensures.value j ^ width j in
     let few : assignments c.args.t.now.size c.args.c.now ≤ 4096 = omega (arith, power, c.count_assignments.ensures, c.if-count_assignments-gt-MAX_ASSIGNMENTS.false) in
     let same : (record { size = c.size-size.result; tables = c.tables.result.now }) ≡ c.args.t.now
-        = λ j. record { size = c.size-size.ensures.value j; tables = c.tables.ensures j } in
+    = λ j. record { size = c.size-size.ensures.value j; tables = c.tables.ensures j } in
     elim c.if-is_satisfied.branch [
       | then-is_satisfied w ↦ subst (IsMark c.args.t.now c.args.c.now) (sym w.result-is)
           (few, subst (λ (t : Structure). Satisfies t c.args.c.now) same (c.is_satisfied.ensures.0 w.if-is_satisfied.true))

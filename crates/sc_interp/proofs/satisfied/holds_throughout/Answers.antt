@@ -31,7 +31,7 @@ assignments-smaller c =
     let most = bounded c.args.size c.advance.new.values c.advance.ensures.elements in
     let power = ap (λ n. c.args.size ^ n) c.advance.ensures.length in
     let less : c.args.size ^ length c.advance.new.values - number_of c.args.size c.advance.new.values
-            < c.args.size ^ length c.assignments.values - number_of c.args.size c.assignments.values = omega (arith, next, most, power) in
+    < c.args.size ^ length c.assignments.values - number_of c.args.size c.assignments.values = omega (arith, next, most, power) in
     less
 
 pub assignments-preserved : goal.assignments-preserved
