@@ -1,5 +1,5 @@
 -- Whether a number is outside its range, by its capped value.
-use Rattle.std.proofs.Common.{◌≡◌, ◌∙◌, sym, ap, refl, ℕ, zero, suc, ◌-◌, ◌≤◌, min, Bool, true, false, not, ◌&&◌, List, [], ◌∷◌, length, get_or, drop, arith, ℤ, pos, negsuc, neg_ℤ, ◌≤ℤ◌}
+use Rattle.std.proofs.Common.{◌≡◌, ◌∙◌, sym, ap, refl, ℕ, zero, suc, ◌-◌, ◌≤◌, min, Bool, true, false, not, ◌&&◌, List, [], ◌∷◌, length, get_or, drop, arith, ℤ, pos, negsuc, neg_ℤ, ◌≤ℤ◌, ◌<◌, ◌++◌, length-append}
 use Rattle.std.specs.Prelude.{Ok, Err, Option, Some, None, option_map, nat_lt, int_le, if◌then◌else◌}
 use Rattle.std.specs.List.{list_all}
 use Rattle.std.specs.Str.Parse.{digits_value}
@@ -12,7 +12,7 @@ use Rattle.sc_reading.specs.Tokens.{is_digit}
 use Rattle.sc_reading.specs.Reader.{Read, ◌>>=◌, unexpected}
 use Rattle.sc_reading.specs.Settings.{Range}
 use Rattle.sc_reading.specs.ProblemLimits.{last_digits, is_outside, out_of_range}
-use Rattle.sc_limits.specs.Numbers.{capped_number, IsShort, told_at}
+use Rattle.sc_limits.specs.Numbers.{capped_number, IsShort, told_at, number_of_value}
 
 abbrev is_within : Range → ℤ → Bool
 is_within range n = int_le range.low n && int_le n range.high
@@ -112,3 +112,42 @@ out_of_range_at (x ∷ []) a b l e f = absurd (omega arith)
 out_of_range_at (x ∷ y ∷ []) a b l e f = absurd (omega arith)
 out_of_range_at (x ∷ y ∷ z ∷ []) a b l e f = absurd (omega arith)
 out_of_range_at (x ∷ y ∷ z ∷ w ∷ ws) a b l e f = ap (λ (t : Token). told_at t z ws) (sym e) ∙ ap (λ (t : Token). told_at a t ws) (sym f)
+
+-- ---- the number of an item
+
+-- only the first two tokens of a value decide
+capped_number-first : (a b : Token) (xs : List Token) → capped_number (a ∷ b ∷ xs) ≡ capped_number (a ∷ b ∷ [])
+capped_number-first (Word at text) b xs = refl
+capped_number-first (Punctuation at Minus) (Word a text) xs = refl
+capped_number-first (Punctuation at Minus) (Punctuation a s) xs = refl
+capped_number-first (Punctuation at Minus) (Refused a k) xs = refl
+capped_number-first (Punctuation at Open) b xs = refl
+capped_number-first (Punctuation at Close) b xs = refl
+capped_number-first (Punctuation at Comma) b xs = refl
+capped_number-first (Punctuation at Stop) b xs = refl
+capped_number-first (Punctuation at Bar) b xs = refl
+capped_number-first (Punctuation at Equal) b xs = refl
+capped_number-first (Punctuation at Unequal) b xs = refl
+capped_number-first (Punctuation at Colon) b xs = refl
+capped_number-first (Refused at k) b xs = refl
+
+number_stays : (front : List Token) (last : Token) → 6 ≤ length front → number_of_value front ≡ number_of_value (front ++ last ∷ [])
+number_stays [] last h = absurd (omega arith)
+number_stays (a ∷ []) last h = absurd (omega arith)
+number_stays (a ∷ b ∷ []) last h = absurd (omega arith)
+number_stays (a ∷ b ∷ c ∷ []) last h = absurd (omega arith)
+number_stays (a ∷ b ∷ c ∷ d ∷ []) last h = absurd (omega arith)
+number_stays (a ∷ b ∷ c ∷ d ∷ e ∷ []) last h = absurd (omega arith)
+number_stays (a ∷ b ∷ c ∷ d ∷ e ∷ f ∷ xs) last h = capped_number-first e f xs ∙ sym (capped_number-first e f (xs ++ last ∷ []))
+
+pub number_kept : (front sentence : List Token) (last : Token) (before : Option ℤ) → sentence ≡ front ++ last ∷ [] → before ≡ number_of_value front → 6 < length sentence → before ≡ number_of_value sentence
+number_kept front sentence last before e h long =
+    let long_front : 6 ≤ length front = omega (arith, ap length e, length-append front (last ∷ [])) in
+    h ∙ number_stays front last long_front ∙ ap number_of_value (sym e)
+
+pub no_value : (sentence : List Token) → length sentence ≤ 3 → number_of_value sentence ≡ None
+no_value [] h = refl
+no_value (a ∷ []) h = refl
+no_value (a ∷ b ∷ []) h = refl
+no_value (a ∷ b ∷ c ∷ []) h = refl
+no_value (a ∷ b ∷ c ∷ d ∷ xs) h = absurd (omega arith)

@@ -1,5 +1,5 @@
 -- From what is known behind some tokens to what is known behind one more.
-use Rattle.std.proofs.Common.{◌≡◌, ◌∙◌, sym, ap, subst, refl, ℕ, ◌+◌, ◌≤◌, ◌<◌, true, false, List, [], ◌∷◌, ◌++◌, length, take, drop, get_or, length-append, arith}
+use Rattle.std.proofs.Common.{◌≡◌, ◌∙◌, sym, ap, subst, refl, ℕ, ◌+◌, ◌≤◌, ◌<◌, true, false, List, [], ◌∷◌, ◌++◌, length, take, drop, get_or, length-append, arith, ℤ}
 use Rattle.std.specs.Prelude.{Option, Some, None, option_map, is_some}
 use Rattle.std.proofs.lemmas.List.{take_more, drop_all, drop-append-le, length-take-le}
 use Rattle.sc_reading.specs.declared.fault.InputKind.TheVariants.{OutOfRange}
@@ -14,6 +14,7 @@ use Rattle.sc_reading.specs.ProblemLimits.{out_of_range, problem_bounds, problem
 use Rattle.sc_limits.specs.declared.count.ClauseCount.{ClauseCount}
 use Rattle.sc_limits.specs.declared.reached.Reached.{Reached}
 use Rattle.sc_limits.specs.Counted.{Counted}
+use Rattle.sc_limits.specs.Numbers.{number_of_value}
 use Rattle.sc_limits.specs.Positions.{with_token, behind_stop}
 use Rattle.sc_limits.specs.Limits.{fault_in_clause}
 use Rattle.sc_limits.specs.Reached.{Follows, Reaches, IsBehind}
@@ -41,6 +42,10 @@ none_of : (o : Option Home) → is_some o ≡ false → o ≡ None
 none_of None e = refl
 none_of (Some home) e = absurd cc
 
+in_a_list : (o : Option Home) (home : Home) → o ≡ Some home → o ≡ None → ⊥
+in_a_list None home e f = cc
+in_a_list (Some h) home e f = cc
+
 -- ---- a full stop
 
 pub stop_told : (front whole : List Token) (t : Token) (r ended : Reached) (told : Option Place) → IsBehind front r → whole ≡ front ++ t ∷ [] → is_sign Stop t ≡ true
@@ -53,9 +58,9 @@ nothing_so_far (Some home) = refl
 
 pub stop_kept : (front whole : List Token) (t : Token) (at : ℕ) (r ended : Reached) (told : Option Place) (count : ClauseCount) → IsBehind front r → whole ≡ front ++ t ∷ [] → length front ≡ at → is_sign Stop t ≡ true
     → Reaches (behind_stop (position front)) ended told → ended.clauses ≤ r.clauses + 1 → Counted [] count → count.weight ≡ 0 → count.literal.atom.around ≡ 0 → told ≡ None
-    → IsBehind whole (record { home = ended.home; start = at + 1; clauses = ended.clauses; count = count; symbols = ended.symbols; spoilt = ended.spoilt })
+    → IsBehind whole (record { home = ended.home; start = at + 1; number = None; clauses = ended.clauses; count = count; symbols = ended.symbols; spoilt = ended.spoilt })
 stop_kept front whole t at r ended told count h w n s k few counted light out none =
-    let new : Reached = record { home = ended.home; start = at + 1; clauses = ended.clauses; count = count; symbols = ended.symbols; spoilt = ended.spoilt } in
+    let new : Reached = record { home = ended.home; start = at + 1; number = None; clauses = ended.clauses; count = count; symbols = ended.symbols; spoilt = ended.spoilt } in
     let f = k.follows none in
     let long : length whole ≡ at + 1 = ap length w ∙ length-append front (t ∷ []) ∙ ap (λ (n : ℕ). n + 1) n in
     let p : position whole ≡ behind_stop (position front) = ap position w ∙ position-stop front t s in
@@ -65,6 +70,7 @@ stop_kept front whole t at r ended told count h w n s k few counted light out no
     record {
       follows = subst P (sym p) follows;
       count = subst Q (sym (ap clause_so_far p ∙ nothing_so_far (behind_stop (position front)).home)) counted;
+      number = λ closed. sym (ap (λ (p : Position). number_of_value p.sentence) p);
       sentence = ap (λ (p : Position). p.sentence) p ∙ sym (drop_all (at + 1) whole (omega arith));
       start = omega arith;
       clauses = omega (arith, h.clauses);
@@ -121,9 +127,9 @@ clause_told front whole t r count clause told h w s listed more c k =
 
 pub clause_goes_on : (front whole : List Token) (t : Token) (r : Reached) (count : ClauseCount) → IsBehind front r → whole ≡ front ++ t ∷ [] → is_sign Stop t ≡ false → is_some r.home ≡ true
     → ((tokens : List Token) → Counted tokens r.count → Counted (tokens ++ t ∷ []) count) → count.weight ≤ r.count.weight + 1 → count.literal.atom.around ≤ r.count.literal.atom.around + 1 → first_passed fault_at whole ≡ None
-    → IsBehind whole (record { home = r.home; start = r.start; clauses = r.clauses; count = count; symbols = r.symbols; spoilt = r.spoilt })
+    → IsBehind whole (record { home = r.home; start = r.start; number = r.number; clauses = r.clauses; count = count; symbols = r.symbols; spoilt = r.spoilt })
 clause_goes_on front whole t r count h w s listed more light out untold =
-    let new : Reached = record { home = r.home; start = r.start; clauses = r.clauses; count = count; symbols = r.symbols; spoilt = r.spoilt } in
+    let new : Reached = record { home = r.home; start = r.start; number = r.number; clauses = r.clauses; count = count; symbols = r.symbols; spoilt = r.spoilt } in
     let home = some_of r.home listed in
     let long : length whole ≡ length front + 1 = ap length w ∙ length-append front (t ∷ []) in
     let e : (position front).home ≡ Some home.0 = sym h.follows.home ∙ home.1 in
@@ -133,6 +139,7 @@ clause_goes_on front whole t r count h w s listed more light out untold =
     record {
       follows = follows_behind front whole t r new h w s refl refl refl refl;
       count = subst P (sym so_far) (counted_behind front whole t r count h w listed more);
+      number = λ closed. absurd (in_a_list (position whole).home home.0 (ap (λ (p : Position). p.home) p ∙ e) closed);
       sentence = ap (λ (p : Position). p.sentence) p ∙ sym (sentence_behind front whole t r h w);
       start = omega (arith, h.start);
       clauses = omega (arith, h.clauses);
@@ -154,17 +161,28 @@ outside_told front whole t r sentence told h w s closed c k =
     ∙ sym (passed_outside p.clauses (p.sentence ++ t ∷ []) (symbols_untold p.clauses None (p.sentence ++ t ∷ []) r.symbols f.symbols) f.untold)
     ∙ sym (ap (λ (o : Option Home). passed (problem_limits problem_bounds) (record { clauses = p.clauses; home = o; sentence = p.sentence ++ t ∷ [] })) e))
 
-pub outside_goes_on : (front whole : List Token) (t : Token) (r : Reached) → IsBehind front r → whole ≡ front ++ t ∷ [] → is_sign Stop t ≡ false → is_some r.home ≡ false → first_passed fault_at whole ≡ None → IsBehind whole r
-outside_goes_on front whole t r h w s closed untold =
+-- the number that the value of the item begins with
+pub number_behind : (front whole : List Token) (t : Token) (r : Reached) (sentence : List Token) (number : Option ℤ) → IsBehind front r → whole ≡ front ++ t ∷ [] → is_some r.home ≡ false → sentence ≡ drop r.start whole
+    → ((front : List Token) (last : Token) → sentence ≡ front ++ last ∷ [] → r.number ≡ number_of_value front → number ≡ number_of_value sentence) → number ≡ number_of_value sentence
+number_behind front whole t r sentence number h w closed c k =
+    k (position front).sentence t (c ∙ sentence_behind front whole t r h w) (h.number (sym h.follows.home ∙ none_of r.home closed))
+
+pub outside_goes_on : (front whole : List Token) (t : Token) (r : Reached) (sentence : List Token) (number : Option ℤ) → IsBehind front r → whole ≡ front ++ t ∷ [] → is_sign Stop t ≡ false → is_some r.home ≡ false
+    → sentence ≡ drop r.start whole → number ≡ number_of_value sentence → first_passed fault_at whole ≡ None
+    → IsBehind whole (record { home = r.home; start = r.start; number = number; clauses = r.clauses; count = r.count; symbols = r.symbols; spoilt = r.spoilt })
+outside_goes_on front whole t r sentence number h w s closed c n untold =
+    let new : Reached = record { home = r.home; start = r.start; number = number; clauses = r.clauses; count = r.count; symbols = r.symbols; spoilt = r.spoilt } in
     let long : length whole ≡ length front + 1 = ap length w ∙ length-append front (t ∷ []) in
     let e : (position front).home ≡ None = sym h.follows.home ∙ none_of r.home closed in
     let p = position_behind front whole t w s in
     let none : (q : Position) → q.home ≡ None → clause_so_far q ≡ [] = λ q e. ap (λ (o : Option Home). elim o [ None ↦ [] | Some home ↦ q.sentence ]) e in
     let P : List Token → Type 0 = λ c. Counted c r.count in
+    let here : (position whole).sentence ≡ drop r.start whole = ap (λ (p : Position). p.sentence) p ∙ sym (sentence_behind front whole t r h w) in
     record {
-      follows = follows_behind front whole t r r h w s refl refl refl refl;
+      follows = follows_behind front whole t r new h w s refl refl refl refl;
       count = subst P (none (position front) e ∙ sym (ap clause_so_far p ∙ none (with_token t (position front)) e)) h.count;
-      sentence = ap (λ (p : Position). p.sentence) p ∙ sym (sentence_behind front whole t r h w);
+      number = λ closed. n ∙ ap number_of_value (c ∙ sym here);
+      sentence = here;
       start = omega (arith, h.start);
       clauses = omega (arith, h.clauses);
       weight = omega (arith, h.weight);

@@ -1,5 +1,5 @@
 -- Numbers as code has them: what is beyond ten digits stands as 10,000,000,000 with its sign.
-use Rattle.std.specs.Prelude.{ℕ, min, List, ◌∷◌, Option, Some, None, option_map, ℤ, pos, negsuc, neg_ℤ, ◌≤ℤ◌, codes, option_and_then, if◌then◌else◌}
+use Rattle.std.specs.Prelude.{ℕ, min, List, ◌∷◌, Option, Some, None, option_map, ℤ, pos, negsuc, neg_ℤ, ◌≤ℤ◌, codes, option_and_then, if◌then◌else◌, drop}
 use Rattle.std.specs.List.{list_all}
 use Rattle.std.specs.Str.Parse.{digits_value}
 use Rattle.sc_reading.specs.declared.token.Token.{Token}
@@ -23,6 +23,10 @@ capped_numeral tokens = None
 abbrev pub capped_number : List Token → Option ℤ
 capped_number (Punctuation at Minus ∷ tokens) = option_map (λ n. neg_ℤ (pos n)) (capped_numeral tokens)
 capped_number tokens = option_map pos (capped_numeral tokens)
+
+-- the number that the value of an item so far begins with
+abbrev pub number_of_value : List Token → Option ℤ
+number_of_value sentence = capped_number (drop 4 sentence)
 
 -- the ranges that parameters have
 pub record IsShort (range : settings.Range) : Type 0 where

@@ -10,6 +10,7 @@ use Rattle.sc_reading.specs.Faults.{passed, first_passed}
 use Rattle.sc_reading.specs.ProblemLimits.{written, is_bad_demodulator, demodulators_told, problem_bounds, problem_limits, problem_fault_at}
 use Rattle.sc_limits.specs.declared.reached.Reached.{Reached}
 use Rattle.sc_limits.specs.Counted.{Counted}
+use Rattle.sc_limits.specs.Numbers.{number_of_value}
 use Rattle.sc_limits.specs.Symbols.{Keeps}
 
 -- the symbols of clauses in the order of the text
@@ -33,6 +34,7 @@ pub record Reaches (p : Position) (r : Reached) (answer : Option Place) : Type 0
 pub record IsBehind (tokens : List Token) (r : Reached) : Type 0 where
   pub follows : Follows (position tokens) r
   pub count : Counted (clause_so_far (position tokens)) r.count
+  pub number : (position tokens).home ≡ None → r.number ≡ number_of_value (position tokens).sentence
   pub sentence : (position tokens).sentence ≡ drop r.start tokens
   pub start : r.start ≤ length tokens
   pub clauses : r.clauses ≤ length tokens

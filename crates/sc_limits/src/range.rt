@@ -1,12 +1,13 @@
 //! Numbers outside the range of their parameter.
 
-ghost use Rattle.std.specs.Prelude.{◌≡◌, ◌≤◌, ◌+◌, ◌*◌, min, length, true, [], ◌∷◌, ◌&&◌, int_le, IfSome, option_map, Some};
+ghost use Rattle.std.specs.Prelude.{◌≡◌, ◌≤◌, ◌+◌, ◌*◌, min, length, true, List, [], ◌∷◌, ◌++◌, ◌&&◌, int_le, IfSome, option_map, Some};
 ghost use Rattle.std.specs.List.{list_all};
 ghost use Rattle.std.specs.Str.Parse.{digits_value};
 ghost use Rattle.std.specs.Char.{digit_value};
+ghost use Rattle.sc_reading.specs.declared.token.Token.{Token};
 ghost use Rattle.sc_reading.specs.Tokens.{is_digit};
 ghost use Rattle.sc_reading.specs.ProblemLimits as spec;
-ghost use Rattle.sc_limits.specs.Numbers.{as_range, capped_numeral, capped_number, IsShort, told_at};
+ghost use Rattle.sc_limits.specs.Numbers.{as_range, capped_numeral, capped_number, number_of_value, IsShort, told_at};
 
 use crate::count::first_at;
 use sc_reading::{Sign, Token};
@@ -17,6 +18,9 @@ const CAP: u64 = 10_000_000_000;
 
 /// How many digits a number may have.
 const MOST_DIGITS: usize = 10;
+
+/// Within how many tokens the number of an item stands, as in `assign`, `(`, a name, `,`, `-`, digits.
+const NUMBER_WITHIN: usize = 6;
 
 fn is_numeral(text: &[u8]) -> bool
     ensures { result ≡ list_all is_digit text.now }
@@ -63,7 +67,7 @@ fn numeral(tokens: &[Token]) -> Option<u64>
 }
 
 /// The number that the tokens begin with, or `-` and a number, up to the cap.
-fn number(tokens: &[Token]) -> Option<i64>
+pub fn number(tokens: &[Token]) -> Option<i64>
     ensures { result ≡ capped_number tokens.now }
 {
     match tokens {
@@ -111,12 +115,12 @@ impl Range {
         self.low <= n && n <= self.high
     }
 
-    /// Whether the tokens begin with a number of more than 10 digits, or outside the range.
-    fn is_outside(&self, value: &[Token]) -> bool
+    /// Whether a value so far is a number of more than 10 digits, or outside the range. It begins with `number`.
+    fn is_outside(&self, number: Option<i64>, value: &[Token]) -> bool
         requires { IsShort (as_range self.now) }
-        ensures { result ≡ spec.is_outside (as_range self.now) value.now }
+        ensures { number ≡ capped_number value.now → result ≡ spec.is_outside (as_range self.now) value.now }
     {
-        match number(value) {
+        match number {
             Some(n) => MOST_DIGITS < last_digits(value) || !self.holds(n),
             None => false,
         }
@@ -159,15 +163,15 @@ fn range_of(name: &Token) -> Option<Range>
 }
 
 /// Where the value begins that is outside the range of the parameter, where the item is an assignment.
-fn value_told(item: &Token, name: &Token, value: &[Token]) -> Option<u64>
-    ensures { result ≡ told_at item.now name.now value.now }
+fn value_told(item: &Token, name: &Token, number: Option<i64>, value: &[Token]) -> Option<u64>
+    ensures { number ≡ capped_number value.now → result ≡ told_at item.now name.now value.now }
 {
     if !is_word(b"assign", item) {
         return None;
     }
     match range_of(name) {
         Some(range) => {
-            if range.is_outside(value) {
+            if range.is_outside(number, value) {
                 first_at(value)
             } else {
                 None
@@ -177,12 +181,27 @@ fn value_told(item: &Token, name: &Token, value: &[Token]) -> Option<u64>
     }
 }
 
-/// Where the number begins that is outside the range of its parameter, in the sentence of an item so far.
-pub fn out_of_range(sentence: &[Token]) -> Option<u64>
-    ensures { result ≡ spec.out_of_range sentence.now }
+/// The number that the value of an item so far begins with. `before` is that of the item without its last token; it
+/// stays once the value has two tokens, so that a long word is looked at twice at most.
+pub fn number_so_far(before: Option<i64>, sentence: &[Token]) -> Option<i64>
+    ensures { (front : List Token) (last : Token) → sentence.now ≡ front ++ last ∷ [] → before ≡ number_of_value front → result ≡ number_of_value sentence.now }
+{
+    if NUMBER_WITHIN < sentence.len() {
+        return before;
+    }
+    match sentence {
+        [_, _, _, _, value @ ..] => number(value),
+        _ => None,
+    }
+}
+
+/// Where the number begins that is outside the range of its parameter, in the sentence of an item so far. `number` is
+/// what its value begins with.
+pub fn out_of_range(number: Option<i64>, sentence: &[Token]) -> Option<u64>
+    ensures { number ≡ number_of_value sentence.now → result ≡ spec.out_of_range sentence.now }
 {
     match sentence {
-        [item, _, name, _, value @ ..] => value_told(item, name, value),
+        [item, _, name, _, value @ ..] => value_told(item, name, number, value),
         _ => None,
     }
 }

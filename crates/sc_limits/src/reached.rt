@@ -14,7 +14,7 @@ use crate::count::{ClauseCount, first_at};
 use crate::demodulator::is_demodulator;
 use crate::limits::fault_in_clause;
 use crate::position::{between, closes, opened};
-use crate::range::out_of_range;
+use crate::range::{number_so_far, out_of_range};
 use crate::symbols::{Symbols, add_clause};
 use sc_grammar::read_clause;
 use sc_reading::{Home, InputKind, Place, Sign, Token, WrittenLiteral};
@@ -30,6 +30,8 @@ pub struct Reached {
     pub home: Option<Home>,
     /// The number of the first token of the sentence so far.
     pub start: usize,
+    /// The number that the value of the item so far begins with, outside the lists.
+    pub number: Option<i64>,
     /// How many clauses are whole.
     pub clauses: usize,
     /// What is counted of the clause so far.
@@ -135,6 +137,7 @@ impl Reached {
         Ok(Reached {
             home: None,
             start: 0,
+            number: None,
             clauses: 0,
             count: ClauseCount::new(alloc),
             symbols: Symbols::new(alloc)?,
@@ -153,6 +156,7 @@ impl Reached {
         if is_sign(Sign::Stop, token) {
             let told = self.end_sentence(alloc, between(tokens, self.start, at))?;
             self.count = ClauseCount::new(alloc);
+            self.number = None;
             self.start = at + 1;
             Ok(told)
         } else if self.home.is_some() {
@@ -160,8 +164,9 @@ impl Reached {
             let clause = between(tokens, self.start, at + 1);
             Ok(fault_in_clause(&self.count, self.clauses, clause))
         } else {
-            let at = out_of_range(between(tokens, self.start, at + 1));
-            Ok(told(at, InputKind::OutOfRange))
+            let item = between(tokens, self.start, at + 1);
+            self.number = number_so_far(self.number, item);
+            Ok(told(out_of_range(self.number, item), InputKind::OutOfRange))
         }
     }
 }

@@ -27,7 +27,7 @@ returns-clause-reaches c = λ p h e.
     let P : WrittenClause → Type 0 = λ w. FindsMore (flat_map found_in w) r.symbols c.add_clause.new.symbols c.in_ok-at.field-0 in
     let Q : Option ℕ → Type 0 = λ told. FindsMore (flat_map found_in (written s)) r.symbols c.add_clause.new.symbols told in
     let found = subst Q c.in-None.is (subst P (c.as_slice.ensures ∙ c.in_ok-clause.ensures) c.in_ok-at.ensures) in
-    let new : Reached = record { home = r.home; start = r.start; clauses = r.clauses + 1; count = r.count; symbols = c.add_clause.new.symbols; spoilt = r.spoilt || c.is_bad-bad.result } in
+    let new : Reached = record { home = r.home; start = r.start; number = r.number; clauses = r.clauses + 1; count = r.count; symbols = c.add_clause.new.symbols; spoilt = r.spoilt || c.is_bad-bad.result } in
     let R : Option Place → Type 0 = λ told. Reaches (behind_clause p c.args.home s) new told in
     subst R (sym c.told.ensures)
     (clause_kept p r c.args.home s new c.is_bad-bad.result c.demodulator_told-at.result h e found

@@ -5,7 +5,7 @@ use Rattle.sc_reading.specs.declared.fault.Place.{Place}
 use Rattle.sc_reading.specs.Position.{position}
 use Rattle.sc_reading.specs.Faults.{place}
 use Rattle.sc_term.specs.declared.memory.OutOfMemory.{OutOfMemory}
-use Rattle.sc_limits.proofs.Steps.{one_taken, so_many, stop_told, stop_kept, clause_told, clause_goes_on, outside_told, outside_goes_on}
+use Rattle.sc_limits.proofs.Steps.{one_taken, so_many, stop_told, stop_kept, clause_told, clause_goes_on, number_behind, outside_told, outside_goes_on}
 use Rattle.sc_limits.proofs.reached.Reached.step.Goals as goal
 
 abbrev ok : Option Place → Result (Option Place) OutOfMemory
@@ -62,15 +62,22 @@ returns-else-is_some-clause-goes_on c = λ none.
     let at = c.args.at in
     let t = c.index-tokens-at.result in
     let taken = one_taken tokens at t c.requires.within c.index-tokens-at.is in
-    outside_goes_on (take at tokens) (take (at + 1) tokens) t c.args.self.now c.requires.behind taken (sym c.is_sign.ensures ∙ c.if-is_sign.false) (sym c.is_some.ensures ∙ c.if-is_some.false)
-    (outside_told (take at tokens) (take (at + 1) tokens) t c.args.self.now c.between-else-is_some.result.now c.told.result c.requires.behind taken
-    (sym c.is_sign.ensures ∙ c.if-is_sign.false) (sym c.is_some.ensures ∙ c.if-is_some.false) c.between-else-is_some.ensures (c.told.ensures ∙ ap (λ (o : Option ℕ). option_map (λ n. place n OutOfRange) o) c.out_of_range-at.ensures) ∙ told_of c.told.result None none)
+    let closed = sym c.is_some.ensures ∙ c.if-is_some.false in
+    let item = c.between-item.result.now in
+    let number = number_behind (take at tokens) (take (at + 1) tokens) t c.args.self.now item c.number_so_far-self.result c.requires.behind taken closed c.between-item.ensures c.number_so_far-self.ensures in
+    outside_goes_on (take at tokens) (take (at + 1) tokens) t c.args.self.now item c.number_so_far-self.result c.requires.behind taken (sym c.is_sign.ensures ∙ c.if-is_sign.false) closed c.between-item.ensures number
+    (outside_told (take at tokens) (take (at + 1) tokens) t c.args.self.now item c.told.result c.requires.behind taken (sym c.is_sign.ensures ∙ c.if-is_sign.false) closed c.between-item.ensures
+    (c.told.ensures ∙ ap (λ (o : Option ℕ). option_map (λ n. place n OutOfRange) o) (c.out_of_range.ensures number)) ∙ told_of c.told.result None none)
 
 pub returns-else-is_some-clause-passes : goal.returns-else-is_some-clause-passes
 returns-else-is_some-clause-passes c =
     let tokens = c.args.tokens.now in
     let at = c.args.at in
     let t = c.index-tokens-at.result in
+    let taken = one_taken tokens at t c.requires.within c.index-tokens-at.is in
+    let closed = sym c.is_some.ensures ∙ c.if-is_some.false in
+    let item = c.between-item.result.now in
+    let number = number_behind (take at tokens) (take (at + 1) tokens) t c.args.self.now item c.number_so_far-self.result c.requires.behind taken closed c.between-item.ensures c.number_so_far-self.ensures in
     passes _ c.told.result
-    (outside_told (take at tokens) (take (at + 1) tokens) t c.args.self.now c.between-else-is_some.result.now c.told.result c.requires.behind (one_taken tokens at t c.requires.within c.index-tokens-at.is)
-    (sym c.is_sign.ensures ∙ c.if-is_sign.false) (sym c.is_some.ensures ∙ c.if-is_some.false) c.between-else-is_some.ensures (c.told.ensures ∙ ap (λ (o : Option ℕ). option_map (λ n. place n OutOfRange) o) c.out_of_range-at.ensures))
+    (outside_told (take at tokens) (take (at + 1) tokens) t c.args.self.now item c.told.result c.requires.behind taken (sym c.is_sign.ensures ∙ c.if-is_sign.false) closed c.between-item.ensures
+    (c.told.ensures ∙ ap (λ (o : Option ℕ). option_map (λ n. place n OutOfRange) o) (c.out_of_range.ensures number)))
