@@ -43,9 +43,10 @@ name_before variable symbols behind o stack left t so_far rest made =
     ap reverse (map-append (λ (p : Bor Occurrence). p.now) behind (o ∷ [])) ∙ reverse-append (map (λ p. p.now) behind) (o.now ∷ []) in
     reverse-append left (t ∷ []) ∙ (λ j. made j ∷ rest j) ∙ (λ j. term_at variable symbols o.now (so_far j) ∷ drop o.now.arity (so_far j)) ∙ sym (ap (terms_of variable symbols) names)
 
-pub from_end : (variable : Occurrence → Option ℕ) (symbols : List Symbol) (behind : List (Bor Occurrence)) (all : List Occurrence) (stack : List Term)
-    → reverse stack ≡ terms_of variable symbols (reverse (map (λ p. p.now) behind)) → map (λ p. p.now) behind ≡ reverse all → reverse stack ≡ terms_of variable symbols all
-from_end variable symbols behind all stack so_far end = so_far ∙ ap (terms_of variable symbols) (ap reverse end ∙ reverse-reverse all)
+pub from_end : (variable : Occurrence → Option ℕ) (symbols : List Symbol) (behind : List (Bor Occurrence)) (all : List Occurrence) (stack turned out : List Term)
+    → out ≡ turned → turned ≡ reverse stack → reverse stack ≡ terms_of variable symbols (reverse (map (λ p. p.now) behind)) → map (λ p. p.now) behind ≡ reverse all
+    → out ≡ terms_of variable symbols all
+from_end variable symbols behind all stack turned out is was so_far end = is ∙ was ∙ so_far ∙ ap (terms_of variable symbols) (ap reverse end ∙ reverse-reverse all)
 
 pub variable_term : (variable : Occurrence → Option ℕ) (symbols : List Symbol) (o : Occurrence) (later : List Term) (n : ℕ) → Some n ≡ variable o → Var n ≡ term_at variable symbols o later
 variable_term variable symbols o later n e = ap (λ v. elim v [ Some k ↦ Var k | None ↦ App (symbol_number symbols (function_at o).symbol) (take o.arity later) ]) e

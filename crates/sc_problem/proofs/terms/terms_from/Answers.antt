@@ -26,5 +26,5 @@ loop-occurrence-preserved g c =
 pub returns : goal.returns
 returns g c =
     let end = YieldsList-end (YieldsList-from_rev_slice c.args.occurrences.now cc) c.loop-occurrence.yielded _ c.loop-occurrence.yielded_by _ _ c.in-None.is c.next.ensures.steps in
-    c.from_vec.ensures ∙ c.reverse.ensures.items
-    ∙ from_end (g.N.Numbering.number c.args.variables.now) c.args.sig.now c.loop-occurrence.yielded c.args.occurrences.now c.loop-occurrence.stack.items c.loop-occurrence.invariant end.0
+    from_end (g.N.Numbering.number c.args.variables.now) c.args.sig.now c.loop-occurrence.yielded c.args.occurrences.now c.loop-occurrence.stack.items c.reverse.new.self.items c.from_vec.result
+    c.from_vec.ensures c.reverse.ensures.items c.loop-occurrence.invariant end.0
