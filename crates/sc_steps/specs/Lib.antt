@@ -1,0 +1,3 @@
+pub mod Derivation
+pub mod Splice
+pub mod Walk
