@@ -1,1 +1,4 @@
 pub mod Model
+pub mod Derivation
+pub mod Splice
+pub mod Walk
