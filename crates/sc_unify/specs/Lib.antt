@@ -2,3 +2,4 @@ pub mod Bindings
 pub mod Search
 pub mod Equations
 pub mod Unifiers
+pub mod Limits

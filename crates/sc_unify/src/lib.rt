@@ -3,10 +3,12 @@
 
 mod bound;
 mod equation;
+mod limits;
 mod occurs;
 mod solve;
 mod substitution;
 mod unifier;
+mod write;
 
 pub use substitution::Subst;
 pub use unifier::{unify, unify_all};
