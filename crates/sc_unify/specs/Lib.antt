@@ -3,3 +3,4 @@ pub mod Search
 pub mod Equations
 pub mod Unifiers
 pub mod Limits
+pub mod Matching
