@@ -5,3 +5,5 @@ pub mod Equations
 pub mod OccursCheck
 pub mod Unbound
 pub mod Unifiers
+pub mod Rows
+pub mod Applying

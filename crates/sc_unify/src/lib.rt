@@ -3,10 +3,14 @@
 
 mod bound;
 mod equation;
+mod limits;
+mod matching;
 mod occurs;
 mod solve;
 mod substitution;
 mod unifier;
+mod write;
 
+pub use matching::match_onto;
 pub use substitution::Subst;
 pub use unifier::{unify, unify_all};

@@ -1,9 +1,15 @@
 //! Substitutions, kept as the bindings that make them.
 
-ghost use Rattle.std.specs.Prelude.{◌≡◌, IfOk};
+ghost use Rattle.std.specs.Prelude.{◌≡◌, ◌↔◌, IfOk, IfSome, IsSome};
+ghost use Rattle.sc_data.specs.Clause.{IsWithinLimits};
+ghost use Rattle.sc_data.specs.Substitution.{clause_under};
 ghost use Rattle.sc_unify.specs.Bindings.{bindings, written, AreSolved};
+ghost use Rattle.sc_unify.specs.Unifiers.{substitution};
 
 use crate::bound::{Binding, Bound};
+use crate::limits::{WEIGHT, spend_literals};
+use crate::write::write_clause;
+use sc_data::Clause;
 use sc_term::{Mem, copy_term};
 use sqlite_items::Items;
 use std::alloc::Global;
@@ -45,6 +51,19 @@ fn copy_bindings(alloc: Global, bound: &[Bound]) -> Mem<Items<Binding>>
     Ok(entries)
 }
 
+fn borrow_bindings<'a>(alloc: Global, entries: &'a [Binding]) -> Mem<Vec<Bound<'a>>>
+    ensures { IfOk result (λ r. bindings r.items ≡ entries.now) }
+{
+    let mut bound = Vec::new(alloc);
+    for entry in entries {
+        bound.push(Bound {
+            variable: entry.variable,
+            term: &entry.term,
+        })?;
+    }
+    Ok(bound)
+}
+
 impl Subst {
     /// The substitution that the bindings make.
     pub fn of(alloc: Global, bound: &[Bound]) -> Mem<Subst>
@@ -53,5 +72,17 @@ impl Subst {
     {
         let entries = copy_bindings(alloc, bound)?;
         Ok(Subst { entries })
+    }
+
+    /// What the substitution makes of the clause, where that is within the limits.
+    pub fn apply_limited(&self, alloc: Global, c: &Clause) -> Mem<Option<Clause>>
+        ensures value { IfOk result (λ made. IfSome made (λ d. d ≡ clause_under (substitution self.now) c.now)) }
+        ensures limits { IfOk result (λ made. IsSome made ↔ IsWithinLimits (clause_under (substitution self.now) c.now)) }
+    {
+        let bound = borrow_bindings(alloc, self.entries.as_slice())?;
+        match spend_literals(bound.as_slice(), c.literals.as_slice(), WEIGHT) {
+            Some(_) => Ok(Some(write_clause(alloc, bound.as_slice(), c)?)),
+            None => Ok(None),
+        }
     }
 }
