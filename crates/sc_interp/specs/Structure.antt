@@ -1,6 +1,6 @@
 -- Tables, and their reading as an interpretation whose elements are the numbers below their size.
 use Rattle.std.specs.Prelude.{◌≡◌, ◌<◌, ◌≤◌, ℕ, ◌+◌, ◌-◌, ◌*◌, ◌^◌, List, Option, Some, None, IsSomeAnd, All, map, nat_eq, length, replicate, drop, slice_index, slice_set}
-use Rattle.std.specs.List.{fold, sum_by}
+use Rattle.std.specs.List.{AllZip, fold, sum_by}
 use Rattle.sc_data.specs.declared.SymId.{SymId}
 use Rattle.sc_data.specs.declared.Clause.{Clause}
 use Rattle.sc_data.specs.Numbering.{numbered}
@@ -80,10 +80,13 @@ Satisfies t c = IsTrueIn (λ n. n < t.size) (meaning_of t) c
 
 -- ---- structures over a signature
 
--- each symbol other than `=` has a table, in its role and with its arity
 pub record IsTableOf (symbol : Symbol) (table : Table) : Type 0 where
   pub role : table.role ≡ symbol.role
   pub arity : table.arity ≡ symbol.arity
+
+-- each symbol other than `=` has a table in its role and with its arity, and there are no more
+abbrev pub AreTablesOf : List Symbol → Structure → Type 0
+AreTablesOf symbols t = AllZip IsTableOf (drop 1 symbols) t.tables
 
 -- how many entries the tables of a signature have
 abbrev pub entry_count : List Symbol → ℕ → ℕ

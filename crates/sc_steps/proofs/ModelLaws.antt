@@ -1,21 +1,19 @@
 -- Refuted clauses aren't all true in an interpretation: of the atoms of the refutation's members take those that hold
 -- where every variable is one fixed element. No member is false in that valuation, since each holds there.
-use Rattle.std.proofs.Common.{◌≡◌, ◌∙◌, sym, ap, subst, refl, ℕ, zero, suc, ◌<◌, Bool, true, false, true≢false, not, ◌&&◌, ◌||◌, ◌⊎◌, inl, inr, if◌then◌else◌, nat_eq, List, [], ◌∷◌, ◌++◌, length, map, get_or, slice_get, Some, cond, arith}
+use Rattle.std.proofs.Common.{◌≡◌, ◌∙◌, sym, ap, subst, refl, ℕ, Bool, true, false, true≢false, not, ◌&&◌, ◌||◌, inl, inr, if◌then◌else◌, nat_eq, List, [], ◌∷◌, ◌++◌, map, get_or, cond}
 use Rattle.std.specs.List.{All, AllByRecursion, list_any, list_all, filter}
 use Rattle.std.proofs.lemmas.Bool.{eqb-true, eq-eqb}
 use Rattle.std.proofs.lemmas.Option.{slice_get_within, get_or_from_slice_get}
 use Rattle.std.proofs.lemmas.List.Elements.{All-nil, All-cons}
 use Rattle.sc_data.specs.declared.SymId.{SymId}
-use Rattle.sc_data.specs.declared.Term.{Term, Var}
-use Rattle.sc_data.specs.declared.Term.TheVariants.{App}
+use Rattle.sc_data.specs.declared.Term.{Term}
 use Rattle.sc_data.specs.declared.Literal.{Literal}
 use Rattle.sc_data.specs.declared.Clause.{Clause}
 use Rattle.sc_data.specs.Term.{value_of, term_instance}
-use Rattle.sc_data.specs.Clause.{literal_instance, instance}
+use Rattle.sc_data.specs.Clause.{literal_instance}
 use Rattle.sc_data.specs.Interpretation.{Meaning, Assignment, value_step, value, atom_holds, literal_holds, IsTrueIn}
-use Rattle.sc_data.specs.Refuted.{same_term, same_terms, Atom, same_atom, atom_of, is_true_in, is_false_literal, is_false_clause, all_same, IsReflexivity, IsCongruenceOfFunction, IsCongruenceOfPredicate, IsEqualityAxiom, IsInstanceOfOne, IsMember, IsRefuted}
-use Rattle.sc_data.proofs.TermLaws.{term_ind, out-Var, out-App, fold-Var, fold-App, instance-Var, instance-App, same_symbol}
-use Rattle.sc_data.proofs.SameLaws.{equal_terms}
+use Rattle.sc_data.specs.Refuted.{Atom, same_atom, atom_of, is_true_in, is_false_literal, is_false_clause, IsEqualityAxiom, IsMember, IsRefuted}
+use Rattle.sc_data.proofs.TermLaws.{term_ind, fold-Var, fold-App, instance-Var, instance-App}
 use Rattle.sc_steps.proofs.SameAtoms.{equal_atoms, same_as_itself}
 
 -- ---- truth values
@@ -221,16 +219,18 @@ IsAmong atoms l = list_any (same_atom (atom_of l)) atoms ≡ true
 
 own_atoms : (ls : List Literal) → AllByRecursion (IsAmong (map atom_of ls)) ls
 own_atoms [] = tt
-own_atoms (l ∷ ls) =
-    (ap (λ b. b || list_any (same_atom (atom_of l)) (map atom_of ls)) (same_as_itself (atom_of l)),
-    all_so (IsAmong (map atom_of ls)) (IsAmong (map atom_of (l ∷ ls))) (λ m h. or_right (same_atom (atom_of m) (atom_of l)) _ h) ls (own_atoms ls))
+own_atoms (l ∷ ls) = (
+  ap (λ b. b || list_any (same_atom (atom_of l)) (map atom_of ls)) (same_as_itself (atom_of l)),
+  all_so (IsAmong (map atom_of ls)) (IsAmong (map atom_of (l ∷ ls))) (λ m h. or_right (same_atom (atom_of m) (atom_of l)) _ h) ls (own_atoms ls),
+)
 
 all_atoms : (cs : List Clause) → AllByRecursion (λ (c : Clause). AllByRecursion (IsAmong (atoms_of cs)) c.literals) cs
 all_atoms [] = tt
-all_atoms (c ∷ cs) =
-    (all_so (IsAmong (map atom_of c.literals)) (IsAmong (atoms_of (c ∷ cs))) (λ l h. any_left (same_atom (atom_of l)) (map atom_of c.literals) (atoms_of cs) h) c.literals (own_atoms c.literals),
-    all_so (λ (d : Clause). AllByRecursion (IsAmong (atoms_of cs)) d.literals) (λ (d : Clause). AllByRecursion (IsAmong (atoms_of (c ∷ cs))) d.literals)
-    (λ d k. all_so (IsAmong (atoms_of cs)) (IsAmong (atoms_of (c ∷ cs))) (λ l h. any_right (same_atom (atom_of l)) (map atom_of c.literals) (atoms_of cs) h) d.literals k) cs (all_atoms cs))
+all_atoms (c ∷ cs) = (
+  all_so (IsAmong (map atom_of c.literals)) (IsAmong (atoms_of (c ∷ cs))) (λ l h. any_left (same_atom (atom_of l)) (map atom_of c.literals) (atoms_of cs) h) c.literals (own_atoms c.literals),
+  all_so (λ (d : Clause). AllByRecursion (IsAmong (atoms_of cs)) d.literals) (λ (d : Clause). AllByRecursion (IsAmong (atoms_of (c ∷ cs))) d.literals)
+      (λ d k. all_so (IsAmong (atoms_of cs)) (IsAmong (atoms_of (c ∷ cs))) (λ l h. any_right (same_atom (atom_of l)) (map atom_of c.literals) (atoms_of cs) h) d.literals k) cs (all_atoms cs),
+)
 
 -- ---- refuted clauses
 
@@ -241,5 +241,5 @@ not_all_true IsElement meaning element element_is closed inputs refuted all =
     let a : Assignment = λ n. element in
     let atoms = atoms_of refuted.members in
     let hold = all_so (IsMember inputs) (λ (c : Clause). list_any (literal_holds meaning a) c.literals ≡ true)
-        (λ c h. member_holds IsElement meaning element element_is closed inputs c all h) refuted.members refuted.allowed in
+    (λ c h. member_holds IsElement meaning element element_is closed inputs c all h) refuted.members refuted.allowed in
     true≢false (sym (refuted.false_somewhere (filter (is_true meaning a) atoms)) ∙ none_false meaning a atoms refuted.members (all_atoms refuted.members) hold)

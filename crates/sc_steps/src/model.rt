@@ -38,5 +38,4 @@ pub trait Interpretation {
 pub fn no_model<I: Interpretation>(i: &I, inputs: &Items<Clause>)
     requires { IsRefuted inputs.now }
     ensures { ¬ IsModel (I.is_element i.now) (I.function i.now) (I.predicate i.now) inputs.now }
-{
-}
+{}
