@@ -167,7 +167,8 @@ impl Tables {
         entry(self.tables.as_slice(), sym, place as usize)
     }
 
-    /// Makes it another entry. The value has to be in the table's range.
+    /// Puts another entry at a place of a symbol's table. An entry of a function is an element, one of a predicate 0
+    /// (false) or 1 (true).
     pub fn set(&mut self, sym: SymId, place: u32, value: u8)
         requires there { HasPlace self.old sym place }
         requires in_range { MayHold self.old sym value }
