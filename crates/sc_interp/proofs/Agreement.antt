@@ -1,7 +1,7 @@
 -- The value of a clause under an assignment depends on the elements of its variables alone. So it is enough to try the
 -- lists of as many elements as the clause is wide.
-use Rattle.std.proofs.Common.{◌≡◌, ◌∙◌, sym, ap, subst, refl, ℕ, zero, suc, ◌+◌, ◌^◌, ◌<◌, ◌≤◌, Bool, true, false, true≢false, not, ◌||◌, ◌⊎◌, inl, inr, if◌then◌else◌, List, [], ◌∷◌, length, map, replicate, get_or, slice_index, max, fold, nat_eq, arith}
-use Rattle.std.specs.List.{All, AllByRecursion, list_any, range_with_len}
+use Rattle.std.proofs.Common.{◌≡◌, ◌∙◌, sym, ap, subst, refl, ℕ, zero, suc, ◌+◌, ◌^◌, ◌<◌, ◌≤◌, Bool, true, false, true≢false, not, ◌||◌, if◌then◌else◌, List, [], ◌∷◌, length, map, replicate, get_or, slice_index, max, fold, nat_eq, arith}
+use Rattle.std.specs.List.{AllByRecursion, list_any, range_with_len}
 use Rattle.std.proofs.lemmas.List.FromFn.{length-map-range_with_len, get_or-map-range_with_len}
 use Rattle.std.proofs.lemmas.Bool.{eqb-true, eqb-false}
 use Rattle.sc_data.specs.declared.SymId.{SymId}
@@ -9,7 +9,7 @@ use Rattle.sc_data.specs.declared.Term.{Term, Var}
 use Rattle.sc_data.specs.declared.Term.TheVariants.{App}
 use Rattle.sc_data.specs.declared.Literal.{Literal}
 use Rattle.sc_data.specs.declared.Clause.{Clause}
-use Rattle.sc_data.specs.Term.{largest, term_width}
+use Rattle.sc_data.specs.Term.{term_width}
 use Rattle.sc_data.specs.Clause.{literal_width, width}
 use Rattle.sc_data.specs.Interpretation.{Meaning, Assignment, value_step, value, atom_holds, literal_holds}
 use Rattle.sc_data.proofs.TermLaws.{term_ind, fold-Var, fold-App, width-Var, width-App}

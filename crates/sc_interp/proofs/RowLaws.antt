@@ -1,13 +1,12 @@
 -- A clause of atoms with one variable each, x0, x1 and so on, is canonical and has as many variables as atoms.
-use Rattle.std.proofs.Common.{◌≡◌, ◌∙◌, sym, ap, refl, ℕ, zero, suc, ◌+◌, ◌<◌, ◌≤◌, Bool, true, false, ◌||◌, if◌then◌else◌, List, [], ◌∷◌, ◌++◌, length, map, nat_eq, add-one, arith}
+use Rattle.std.proofs.Common.{◌≡◌, ◌∙◌, sym, ap, refl, ℕ, zero, suc, ◌+◌, ◌<◌, Bool, true, false, ◌||◌, if◌then◌else◌, List, [], ◌∷◌, ◌++◌, length, map, nat_eq, add-one, arith}
 use Rattle.std.specs.List.{AllByRecursion, list_any, range_with_len}
 use Rattle.std.proofs.lemmas.Bool.{eqb-true}
 use Rattle.std.proofs.lemmas.List.{map-append}
 use Rattle.std.proofs.lemmas.List.FromFn.{length-range_with_len}
-use Rattle.sc_data.specs.declared.Term.{Term, Var}
+use Rattle.sc_data.specs.declared.Term.{Var}
 use Rattle.sc_data.specs.declared.Literal.{Literal}
 use Rattle.sc_data.specs.declared.Clause.{Clause}
-use Rattle.sc_data.specs.Term.{joined, term_variables}
 use Rattle.sc_data.specs.Clause.{width, variables, firsts, firsts_after, counting_from, IsCanonical}
 use Rattle.sc_data.proofs.TermSteps.{variables-Var}
 use Rattle.sc_interp.proofs.Width.{canonical_width}

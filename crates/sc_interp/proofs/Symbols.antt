@@ -1,11 +1,12 @@
--- One more symbol of a signature, `=` left out.
-use Rattle.std.proofs.Common.{◌≡◌, ◌∙◌, sym, ap, refl, ℕ, zero, suc, ◌+◌, ◌^◌, ◌<◌, ◌≤◌, List, [], ◌∷◌, ◌++◌, map, sum, take, drop, slice_get, Some, None, add-one, arith}
+-- Symbols of a signature and their tables, `=` left out.
+use Rattle.std.proofs.Common.{◌≡◌, ◌∙◌, sym, ap, ℕ, zero, suc, ◌+◌, ◌^◌, ◌≤◌, replicate, List, [], ◌∷◌, ◌++◌, map, take, drop, slice_get, Some, add-one, arith}
 use Rattle.std.specs.List.{sum_by}
 use Rattle.std.proofs.lemmas.List.{map-append}
 use Rattle.std.proofs.lemmas.List.Sums.{sum_by-append}
 use Rattle.std.proofs.Math.Nat.{pow-le-pow_left, pow-le-pow_right}
 use Rattle.sc_term.specs.declared.symbol.Symbol.{Symbol}
-use Rattle.sc_interp.specs.Structure.{entry_count}
+use Rattle.sc_interp.specs.declared.table.Table.{Table}
+use Rattle.sc_interp.specs.Structure.{entry_count, zero_table}
 
 one_more : {X : Type 0} (xs : List X) (i : ℕ) (x : X) → slice_get xs i ≡ Some x → take (suc i) xs ≡ take i xs ++ x ∷ []
 one_more [] i x e = cc
@@ -34,3 +35,10 @@ small_power size arity s a =
     let base : size ^ arity ≤ 8 ^ arity = pow-le-pow_left s arity in
     let top : 8 ^ arity ≤ 8 ^ 8 = pow-le-pow_right {n = 8} (omega arith) a in
     omega (arith, base, top)
+
+-- one more table whose entries are all 0
+pub zeros_behind : (size : ℕ) (xs : List Symbol) (i : ℕ) (s : Symbol) (old new : List Table) (entries : List ℕ) → 1 ≤ i → slice_get xs i ≡ Some s
+    → old ≡ map (zero_table size) (drop 1 (take i xs)) → entries ≡ replicate (size ^ s.arity) 0
+    → new ≡ old ++ record { role = s.role; arity = s.arity; entries = entries } ∷ [] → new ≡ map (zero_table size) (drop 1 (take (i + 1) xs))
+zeros_behind size xs i s old new entries h e before zeros is =
+    is ∙ (λ j. before j ++ record { role = s.role; arity = s.arity; entries = zeros j } ∷ []) ∙ sym (mapped_behind (zero_table size) xs i s h e)

@@ -7,6 +7,7 @@ use Rattle.sc_data.specs.Interpretation.{literal_holds}
 use Rattle.sc_interp.specs.declared.table.Table.{Table}
 use Rattle.sc_interp.specs.Structure.{tables_of_size}
 
+-- each of them is an element
 abbrev pub AreElements : ℕ → List ℕ → Type 0
 AreElements size values = All (λ v. v < size) values
 

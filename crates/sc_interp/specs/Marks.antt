@@ -10,6 +10,7 @@ use Rattle.sc_interp.specs.Structure.{Structure, Satisfies}
 abbrev pub assignments : ℕ → Clause → ℕ
 assignments size c = size ^ length (firsts (variables c))
 
+-- Wide exactly where there are more than 4,096 assignments, otherwise whether all of them make some literal true
 abbrev pub IsMark : Structure → Clause → Truth → Type 0
 IsMark t c Wide = 4096 < assignments t.size c
 IsMark t c True = (assignments t.size c ≤ 4096) × Satisfies t c

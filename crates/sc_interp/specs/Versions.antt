@@ -1,5 +1,5 @@
 -- Tables with input clauses that they make true.
-use Rattle.std.specs.Prelude.{ℕ, ◌-◌, ◌<◌, ◌≤◌, List, [], IsSomeAnd, All, length, take}
+use Rattle.std.specs.Prelude.{ℕ, ◌-◌, List, [], IsSomeAnd, All, take}
 use Rattle.sc_data.specs.Numbering.{numbered}
 use Rattle.sc_term.specs.declared.symbol.Symbol.{Symbol}
 use Rattle.sc_interp.specs.declared.plain.Claim.{Claim}
@@ -10,9 +10,11 @@ pub record ClaimedStructure : Type 0 where
   pub tables : Structure
   pub claims : List Claim
 
+-- every claim is true in the structure
 abbrev pub AreTrue : Structure → List Claim → Type 0
 AreTrue t claims = All (λ (claim : Claim). Satisfies t claim.clause) claims
 
+-- what every version keeps
 pub record IsVersion (v : ClaimedStructure) : Type 0 where
   pub tables : IsStructure v.tables
   pub claims : AreTrue v.tables v.claims

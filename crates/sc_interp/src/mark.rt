@@ -1,6 +1,6 @@
 //! The mark of a clause in tables.
 
-ghost use Rattle.std.specs.Prelude.{◌≡◌, ◌≤◌, ◌^◌, min, IfOk};
+ghost use Rattle.std.specs.Prelude.{◌≡◌, ◌≤◌, ◌<◌, ◌^◌, ◌↔◌, min, IsTrue, IfOk};
 ghost use Rattle.sc_data.specs.Clause.{IsCanonical, width};
 ghost use Rattle.sc_interp.specs.Marks.{IsMark};
 
@@ -51,6 +51,14 @@ fn count_assignments(size: u8, width: u64) -> u32
     count
 }
 
+/// Whether so many variables have more assignments than are tried.
+fn is_wide(size: u8, width: u64) -> bool
+    requires { 1 ≤ size }
+    ensures { IsTrue result ↔ (4096 < size ^ width) }
+{
+    count_assignments(size, width) > MAX_ASSIGNMENTS
+}
+
 /// The mark of a canonical clause: `Wide` exactly where it has more than 4,096 assignments, otherwise whether all of
 /// them make some literal true. The register has to be as wide as the clause, or wider. Nothing is allocated.
 pub fn truth(t: &Tables, c: &Clause, a: &mut Assign) -> Truth
@@ -61,7 +69,7 @@ pub fn truth(t: &Tables, c: &Clause, a: &mut Assign) -> Truth
 {
     let size = t.size();
     let width = full_width(c);
-    if count_assignments(size, width) > MAX_ASSIGNMENTS {
+    if is_wide(size, width) {
         return Truth::Wide;
     }
     if is_satisfied(size, t.tables(), c, a.values.as_mut_slice()) {

@@ -17,7 +17,7 @@ pub struct VersionName {
     pub place: u32,
 }
 
-/// An input clause, by its number from 1, that tables make true.
+/// An input clause with its number, from 1, of which it is said that tables make it true.
 #[derive(Debug, Drop)]
 pub struct Claim {
     pub number: u32,

@@ -1,7 +1,8 @@
 //! Tables over a signature.
 
-ghost use Rattle.std.specs.Prelude.{◌≡◌, ◌≤◌, ◌<◌, ◌^◌, map, drop, replicate, length, slice_get, IsSomeAnd, IfOk, OnOk, IfErr};
-ghost use Rattle.sc_interp.specs.Structure.{zero_table, zeros, entry_count, entry_at, with_entry_in, with_entry, HasPlace, MayHold, IsStructure};
+ghost use Rattle.std.specs.Prelude.{◌≡◌, ◌≤◌, ◌<◌, ◌^◌, map, drop, replicate, List, length, slice_get, IsSomeAnd, IfOk, OnOk, IfErr};
+ghost use Rattle.sc_interp.specs.Structure.{zero_table, zeros, entry_count, entry_at, with_entry_in, with_entry, HasPlace, MayHold, IsStructure, AreTablesOf};
+ghost use Rattle.sc_term.specs.declared.symbol.Symbol.{Symbol as ASymbol};
 ghost use Rattle.sc_interp.specs.Tables.{IsCauseOfTables};
 
 use crate::copies::copy_tables;
@@ -106,7 +107,8 @@ impl Tables {
     pub(crate) fn zeros(alloc: Global, sig: &Signature, size: u8) -> Mem<Tables>
         requires not_empty { 1 ≤ size }
         requires small { size ≤ 8 }
-        ensures { IfOk result (λ t. t ≡ zeros sig.now size) }
+        ensures value { IfOk result (λ t. t ≡ zeros sig.now size) }
+        ensures over { IfOk result (AreTablesOf sig.now) }
     {
         let tables = zero_tables(alloc, sig, size)?;
         Ok(Tables { size, tables })
@@ -118,6 +120,7 @@ impl Tables {
         requires not_empty { 1 ≤ size }
         requires small { size ≤ 8 }
         ensures value { IfOk result (λ t. t ≡ zeros sig.now size) }
+        ensures over { IfOk result (AreTablesOf sig.now) }
         ensures within { OnOk result (entry_count sig.now size ≤ 1048576) }
         ensures refused { IfErr result (IsCauseOfTables (entry_count sig.now size)) }
     {
@@ -164,11 +167,13 @@ impl Tables {
         entry(self.tables.as_slice(), sym, place as usize)
     }
 
-    /// Makes it another entry. The value has to be in the table's range.
+    /// Puts another entry at a place of a symbol's table. An entry of a function is an element, one of a predicate 0
+    /// (false) or 1 (true).
     pub fn set(&mut self, sym: SymId, place: u32, value: u8)
         requires there { HasPlace self.old sym place }
         requires in_range { MayHold self.old sym value }
-        ensures { self.new ≡ with_entry self.old sym place value }
+        ensures value { self.new ≡ with_entry self.old sym place value }
+        ensures over { (symbols : List ASymbol) → AreTablesOf symbols self.old → AreTablesOf symbols self.new }
     {
         set_entry(
             self.tables.as_mut_slice(),

@@ -1,6 +1,7 @@
 //! Versions: tables with claims that they make true.
 
 ghost use Rattle.std.specs.Prelude.{◌≡◌, ◌<◌, ◌^◌, ◌↔◌, length, IsTrue, IfOk, OnOk, IfErr};
+ghost use Rattle.sc_interp.specs.Structure.{AreTablesOf};
 ghost use Rattle.sc_interp.specs.Versions as spec;
 ghost use Rattle.sc_interp.specs.Versions.{AreTrue, IsVersion};
 ghost use Rattle.sc_interp.specs.ClaimErrors.{IsCauseOfClaims};
@@ -72,7 +73,8 @@ impl Version {
 
     /// The opening version: size 2, every entry 0, no claims.
     pub fn opening(alloc: Global, sig: &Signature) -> Mem<Version>
-        ensures { IfOk result (λ v. v ≡ spec.opening sig.now) }
+        ensures value { IfOk result (λ v. v ≡ spec.opening sig.now) }
+        ensures over { IfOk result (λ v. AreTablesOf sig.now v.tables) }
     {
         let tables = Tables::zeros(alloc, sig, 2)?;
         Ok(Version {

@@ -1,21 +1,19 @@
 -- Refuted clauses aren't all true in an interpretation: of the atoms of the refutation's members take those that hold
 -- where every variable is one fixed element. No member is false in that valuation, since each holds there.
-use Rattle.std.proofs.Common.{◌≡◌, ◌∙◌, sym, ap, subst, refl, ℕ, zero, suc, ◌<◌, Bool, true, false, true≢false, not, ◌&&◌, ◌||◌, ◌⊎◌, inl, inr, if◌then◌else◌, nat_eq, List, [], ◌∷◌, ◌++◌, length, map, get_or, slice_get, Some, cond, arith}
+use Rattle.std.proofs.Common.{◌≡◌, ◌∙◌, sym, ap, subst, refl, ℕ, Bool, true, false, true≢false, not, ◌&&◌, ◌||◌, inl, inr, if◌then◌else◌, nat_eq, List, [], ◌∷◌, ◌++◌, map, get_or, cond}
 use Rattle.std.specs.List.{All, AllByRecursion, list_any, list_all, filter}
 use Rattle.std.proofs.lemmas.Bool.{eqb-true, eq-eqb}
 use Rattle.std.proofs.lemmas.Option.{slice_get_within, get_or_from_slice_get}
 use Rattle.std.proofs.lemmas.List.Elements.{All-nil, All-cons}
 use Rattle.sc_data.specs.declared.SymId.{SymId}
-use Rattle.sc_data.specs.declared.Term.{Term, Var}
-use Rattle.sc_data.specs.declared.Term.TheVariants.{App}
+use Rattle.sc_data.specs.declared.Term.{Term}
 use Rattle.sc_data.specs.declared.Literal.{Literal}
 use Rattle.sc_data.specs.declared.Clause.{Clause}
 use Rattle.sc_data.specs.Term.{value_of, term_instance}
-use Rattle.sc_data.specs.Clause.{literal_instance, instance}
+use Rattle.sc_data.specs.Clause.{literal_instance}
 use Rattle.sc_data.specs.Interpretation.{Meaning, Assignment, value_step, value, atom_holds, literal_holds, IsTrueIn}
-use Rattle.sc_data.specs.Refuted.{same_term, same_terms, Atom, same_atom, atom_of, is_true_in, is_false_literal, is_false_clause, all_same, IsReflexivity, IsCongruenceOfFunction, IsCongruenceOfPredicate, IsEqualityAxiom, IsInstanceOfOne, IsMember, IsRefuted}
-use Rattle.sc_data.proofs.TermLaws.{term_ind, out-Var, out-App, fold-Var, fold-App, instance-Var, instance-App, same_symbol}
-use Rattle.sc_data.proofs.SameLaws.{equal_terms}
+use Rattle.sc_data.specs.Refuted.{Atom, same_atom, atom_of, is_true_in, is_false_literal, is_false_clause, IsEqualityAxiom, IsMember, IsRefuted}
+use Rattle.sc_data.proofs.TermLaws.{term_ind, fold-Var, fold-App, instance-Var, instance-App}
 use Rattle.sc_steps.proofs.SameAtoms.{equal_atoms, same_as_itself}
 
 -- ---- truth values

@@ -1,4 +1,4 @@
-use Rattle.std.proofs.Common.{◌≡◌, ◌∙◌, sym, ◌+◌, ◌<◌, length, get_or, arith}
+use Rattle.std.proofs.Common.{◌≡◌, ◌∙◌, ◌+◌, ◌<◌, length, get_or, arith}
 use Rattle.std.proofs.lemmas.List.Elements.{All-set}
 use Rattle.sc_interp.proofs.Assignments.{IsCarried, next, carried, with_digit, more_zeros}
 use Rattle.sc_interp.proofs.assign.advance.Goals as goal

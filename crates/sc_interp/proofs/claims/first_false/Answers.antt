@@ -1,4 +1,4 @@
-use Rattle.std.proofs.Common.{◌≡◌, ◌∙◌, sym, true≢false}
+use Rattle.std.proofs.Common.{◌∙◌, sym, true≢false}
 use Rattle.sc_interp.proofs.ClaimLaws.{first_found, all_passed}
 use Rattle.sc_interp.proofs.claims.first_false.Goals as goal
 

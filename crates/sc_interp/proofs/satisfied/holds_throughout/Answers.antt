@@ -1,9 +1,9 @@
-use Rattle.std.proofs.Common.{◌≡◌, ◌≢◌, ◌∙◌, sym, ap, ◌+◌, ◌-◌, ◌<◌, ◌≤◌, ◌^◌, length, replicate, true, true≢false, IsTrue, refl, subst, arith}
+use Rattle.std.proofs.Common.{◌∙◌, sym, ap, ◌-◌, ◌<◌, ◌≤◌, ◌^◌, length, refl, arith}
 use Rattle.sc_data.specs.Clause.{width}
 use Rattle.std.proofs.lemmas.List.Elements.{All-replicate}
-use Rattle.sc_interp.specs.Assignments.{AreElements, number_of, HoldsBefore}
+use Rattle.sc_interp.specs.Assignments.{number_of}
 use Rattle.sc_interp.proofs.Assignments.{bounded}
-use Rattle.sc_interp.proofs.Agreement.{satisfied, falsified, tried, all_tried, none_tried}
+use Rattle.sc_interp.proofs.Agreement.{satisfied, tried, all_tried, none_tried}
 use Rattle.sc_interp.proofs.satisfied.holds_throughout.Goals as goal
 
 pub assignments-init : goal.assignments-init

@@ -1,4 +1,4 @@
-use Rattle.std.proofs.Common.{◌≡◌, ◌-◌, ◌^◌, length}
+use Rattle.std.proofs.Common.{◌-◌, ◌^◌, length}
 use Rattle.sc_interp.specs.Assignments.{AreElements, number_of, HoldsBefore}
 use Rattle.sc_interp.proofs.satisfied.holds_throughout.Given as goal
 

@@ -1,4 +1,4 @@
-use Rattle.std.proofs.Common.{◌≡◌, ◌∙◌, sym, ap, ◌+◌, ◌≤◌, ◌*◌, arith}
+use Rattle.std.proofs.Common.{arith}
 use Rattle.sc_interp.proofs.Symbols.{counted_behind}
 use Rattle.sc_interp.proofs.tables.count_entries.Goals as goal
 

@@ -1,4 +1,4 @@
-use Rattle.std.proofs.Common.{◌≡◌, ◌≤◌, ◌^◌, arith}
+use Rattle.std.proofs.Common.{arith}
 use Rattle.sc_interp.proofs.Symbols.{small_power}
 use Rattle.sc_interp.proofs.tables.table_len.Goals as goal
 

@@ -1,9 +1,8 @@
-use Rattle.std.proofs.Common.{◌≡◌, ◌∙◌, sym, ap, subst, List, [], ◌∷◌, ◌++◌, map, arith}
-use Rattle.std.specs.List.{range_with_len}
+use Rattle.std.proofs.Common.{◌≡◌, ◌∙◌, sym, ap, subst, List, [], ◌∷◌, ◌++◌, arith}
 use Rattle.sc_data.specs.declared.Literal.{Literal}
 use Rattle.sc_data.specs.declared.Clause.{Clause}
 use Rattle.sc_data.specs.Clause.{width, IsCanonical}
-use Rattle.sc_interp.proofs.RowLaws.{atom, row_more, row_canonical, row_width}
+use Rattle.sc_interp.proofs.RowLaws.{row_more, row_canonical, row_width}
 use Rattle.sc_interp.proofs.tests.row.Goals as goal
 
 abbrev clause : List Literal → Clause
