@@ -1,5 +1,5 @@
 -- Symbols that join a signature, in the order of the text.
-use Rattle.std.proofs.Common.{◌≡◌, ◌≢◌, ◌∙◌, sym, ap, refl, subst, ℕ, zero, suc, ◌+◌, ◌<◌, ◌≤◌, Bool, true, false, not, ◌||◌, if◌then◌else◌, List, [], ◌∷◌, ◌++◌, map, filter, flat_map, length, get_or, take, drop, slice_get, position, Option, Some, None, arith, length-append}
+use Rattle.std.proofs.Common.{◌≡◌, ◌∙◌, sym, ap, refl, subst, ℕ, suc, ◌+◌, ◌<◌, ◌≤◌, Bool, true, false, not, ◌||◌, if◌then◌else◌, List, [], ◌∷◌, ◌++◌, map, filter, flat_map, length, get_or, take, drop, slice_get, Some, arith, length-append}
 use Rattle.std.specs.List.{list_any, AllByRecursion}
 use Rattle.std.proofs.lemmas.List.{append-nil, map-append, take-append-drop}
 use Rattle.std.proofs.lemmas.List.Elements.{filter-append}
@@ -12,7 +12,7 @@ use Rattle.sc_term.proofs.SymbolLaws.{equal_symbols}
 use Rattle.sc_reading.specs.declared.written.Occurrence.{Occurrence}
 use Rattle.sc_reading.specs.declared.written.WrittenLiteral.{WrittenLiteral}
 use Rattle.sc_reading.specs.Syntax.{WrittenClause}
-use Rattle.sc_reading.specs.Numbering.{is_variable, Found, function_at, found_in, symbol_order, symbols_of, once}
+use Rattle.sc_reading.specs.Numbering.{is_variable, Found, function_at, found_in, symbols_of, once}
 use Rattle.sc_problem.specs.Once.{with_new, with_each}
 use Rattle.sc_problem.specs.Names.{symbol_at, argument_symbols, literal_symbols, clause_symbols, MayJoin}
 use Rattle.sc_problem.proofs.OnceLaws.{Turn, turned, with_each-longer, with_each-room, with_each-once, once-map}

@@ -6,3 +6,4 @@ pub mod LoopLaws
 pub mod JoinLaws
 pub mod WeightLaws
 pub mod SettingLaws
+pub mod ListingLaws

@@ -1,5 +1,5 @@
 -- Variables by their names.
-use Rattle.std.proofs.Common.{◌≡◌, ◌∙◌, sym, ap, refl, ℕ, zero, suc, ◌+◌, ◌-◌, ◌<◌, ◌≤◌, ◌^◌, Bool, true, false, if◌then◌else◌, List, [], ◌∷◌, ◌++◌, map, filter, flat_map, length, get_or, position, Option, Some, None, Bor, arith, cond, not, nat_lt, subst}
+use Rattle.std.proofs.Common.{◌≡◌, ◌∙◌, sym, ap, refl, ℕ, ◌+◌, ◌<◌, ◌≤◌, ◌^◌, Bool, true, false, if◌then◌else◌, List, [], ◌∷◌, ◌++◌, map, filter, flat_map, length, get_or, position, Some, None, Bor, arith, cond, not, nat_lt, subst}
 use Rattle.std.specs.List.{list_any, position_or_len}
 use Rattle.std.proofs.Math.Path.{fun_ext}
 use Rattle.std.proofs.lemmas.List.{append-nil, length-map, map-append}
@@ -9,7 +9,7 @@ use Rattle.sc_reading.specs.declared.written.Occurrence.{Occurrence}
 use Rattle.sc_reading.specs.declared.written.WrittenLiteral.{WrittenLiteral}
 use Rattle.sc_reading.specs.Token.{same_text}
 use Rattle.sc_reading.specs.Syntax.{WrittenClause}
-use Rattle.sc_reading.specs.Numbering.{is_variable, same_name, variables_of, variable_order, number_in, once}
+use Rattle.sc_reading.specs.Numbering.{is_variable, variables_of, variable_order, number_in}
 use Rattle.sc_problem.specs.Once.{with_new, with_each}
 use Rattle.sc_problem.specs.Names.{names_of_variables, variable_names, number_among}
 use Rattle.sc_problem.proofs.OnceLaws.{any-map, once-map, with_each-once, Turn}

@@ -1,5 +1,5 @@
 -- The last item of a name holds.
-use Rattle.std.proofs.Common.{◌≡◌, ◌∙◌, sym, ap, refl, ℕ, ◌+◌, ◌<◌, Bool, true, false, List, [], ◌∷◌, ◌++◌, map, length, get_or, take, if◌then◌else◌, nat_abs, ℤ}
+use Rattle.std.proofs.Common.{◌≡◌, ◌∙◌, sym, ap, refl, ℕ, ◌+◌, ◌<◌, Bool, List, [], ◌∷◌, ◌++◌, length, get_or, take, if◌then◌else◌, nat_abs}
 use Rattle.std.proofs.lemmas.List.{take_more, map-append}
 use Rattle.sc_reading.specs.Token.{same_text}
 use Rattle.sc_reading.specs.ProblemGrammar.{Item, Setting, Assignment, Listing}

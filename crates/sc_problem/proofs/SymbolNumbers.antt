@@ -1,6 +1,6 @@
 -- The place of a symbol in a signature.
-use Rattle.std.proofs.Common.{◌≡◌, ◌≢◌, ◌∙◌, sym, ap, refl, ℕ, zero, suc, ◌<◌, ◌≤◌, Bool, true, false, List, [], ◌∷◌, length, get_or, slice_get, Option, Some, None, IfSome, IfNone, position, unwrap_or, option_map, arith, cond, nat_lt, subst}
-use Rattle.std.specs.List.{AllByRecursion, IsDistinct, AllPairs, position_or_len}
+use Rattle.std.proofs.Common.{◌≡◌, ◌≢◌, ◌∙◌, sym, ap, refl, ℕ, zero, suc, ◌<◌, ◌≤◌, Bool, true, false, List, [], ◌∷◌, length, get_or, slice_get, Option, Some, None, position, unwrap_or, arith, cond, nat_lt, subst}
+use Rattle.std.specs.List.{AllByRecursion, position_or_len}
 use Rattle.std.specs.Bool.{Decides}
 use Rattle.std.proofs.lemmas.Bool.{lt-ltb}
 use Rattle.std.proofs.lemmas.Option.{get_or_from_slice_get, slice_get_within}

@@ -1,10 +1,10 @@
 -- A clause weighs at least as much as it has variables.
-use Rattle.std.proofs.Common.{◌≡◌, ◌∙◌, sym, ap, refl, ℕ, ◌+◌, ◌≤◌, ◌^◌, ◌==◌, Bool, true, false, ◌&&◌, if◌then◌else◌, List, [], ◌∷◌, ◌++◌, map, filter, flat_map, sum, length, take, drop, position, Option, Some, None, arith, length-append}
+use Rattle.std.proofs.Common.{◌≡◌, ◌∙◌, sym, ap, refl, ℕ, ◌+◌, ◌≤◌, ◌==◌, Bool, true, false, ◌&&◌, if◌then◌else◌, List, [], ◌∷◌, ◌++◌, map, filter, flat_map, sum, length, take, drop, position, Option, Some, None, arith, length-append}
 use Rattle.std.specs.List.{list_any}
 use Rattle.std.proofs.lemmas.Bool.{eqb-true}
-use Rattle.std.proofs.lemmas.List.{map-append, take-append-drop}
-use Rattle.std.proofs.lemmas.List.Sums.{sum-map, sum_by-append}
-use Rattle.sc_data.specs.declared.SymId.{SymId}
+use Rattle.std.proofs.lemmas.List.{take-append-drop}
+use Rattle.std.proofs.lemmas.List.Sums.{sum-map, sum_by-append, sum_by-cons}
+use Rattle.std.proofs.lemmas.List.Concat.{flat_map-cons}
 use Rattle.sc_data.specs.declared.Term.{Term}
 use Rattle.sc_data.specs.declared.Term.TheVariants.{Var, App}
 use Rattle.sc_data.specs.Term.{term_weight, weight_step}
@@ -14,8 +14,7 @@ use Rattle.sc_term.specs.declared.symbol.Symbol.{Symbol}
 use Rattle.sc_reading.specs.declared.written.Occurrence.{Occurrence}
 use Rattle.sc_reading.specs.declared.written.WrittenLiteral.{WrittenLiteral}
 use Rattle.sc_reading.specs.Syntax.{WrittenClause}
-use Rattle.sc_reading.specs.Tokens.{begins}
-use Rattle.sc_reading.specs.Numbering.{once, is_variable, same_name, variables_of, variable_order, number_in, symbol_number, function_at, terms_of, term_at, literal_of, clause_of}
+use Rattle.sc_reading.specs.Numbering.{once, is_variable, same_name, variables_of, variable_order, number_in, symbol_number, function_at, terms_of, literal_of, clause_of}
 use Rattle.sc_problem.specs.Names.{HasFewVariables}
 
 once-shorter : {X : Type 0} (same : X → X → Bool) (before xs : List X) → length (once same before xs) ≤ length xs
@@ -37,6 +36,9 @@ filter-shorter p (x ∷ xs) = by (p x) (filter-shorter p xs)
 
 abbrev weights : List Term → ℕ
 weights ts = sum (map term_weight ts)
+
+by_one : {X : Type 0} (f : X → ℕ) (x : X) (xs : List X) → sum (map f (x ∷ xs)) ≡ f x + sum (map f xs)
+by_one f x xs = sum-map f (x ∷ xs) ∙ sum_by-cons f x xs ∙ ap (λ n. f x + n) (sym (sum-map f xs))
 
 in_two : (k : ℕ) (ts : List Term) → weights (take k ts) + weights (drop k ts) ≡ weights ts
 in_two k ts =
@@ -67,8 +69,10 @@ as_many order symbols (o ∷ os) = by (number_in order o) refl (as_many order sy
 
     by : (v : Option ℕ) → number_in order o ≡ v → weights later ≡ length os
         → weights ((elim v [ Some n ↦ Var n | None ↦ App (symbol_number symbols (function_at o).symbol) (take o.arity later) ]) ∷ drop o.arity later) ≡ length (o ∷ os)
-    by (Some n) e rest = let none = no_arguments order o n e in omega (arith, weight-Var n, ap (λ k. weights (drop k later)) none, rest)
-    by None e rest = omega (arith, weight-App (symbol_number symbols (function_at o).symbol) (take o.arity later), in_two o.arity later, rest)
+    by (Some n) e rest = let none = no_arguments order o n e in omega (arith, by_one term_weight (Var n) (drop o.arity later), weight-Var n, ap (λ k. weights (drop k later)) none, rest)
+    by None e rest =
+        let f = symbol_number symbols (function_at o).symbol in
+        omega (arith, by_one term_weight (App f (take o.arity later)) (drop o.arity later), weight-App f (take o.arity later), in_two o.arity later, rest)
 
 -- the arguments of a clause's literals
 abbrev arguments : WrittenClause → List Occurrence
@@ -77,7 +81,15 @@ arguments c = flat_map (λ (l : WrittenLiteral). l.arguments) c
 light_literals : (order : List Occurrence) (symbols : List Symbol) (ls : WrittenClause) → length (arguments ls) ≤ sum (map literal_weight (map (literal_of (number_in order) symbols) ls))
 light_literals order symbols [] = omega arith
 light_literals order symbols (l ∷ ls) =
-    omega (arith, as_many order symbols l.arguments, light_literals order symbols ls, length-append l.arguments (arguments ls))
+    let made = literal_of (number_in order) symbols in
+    omega (
+      arith,
+      by_one literal_weight (made l) (map made ls),
+      as_many order symbols l.arguments,
+      light_literals order symbols ls,
+      length-append l.arguments (arguments ls),
+      ap length (flat_map-cons (λ (k : WrittenLiteral). k.arguments) l ls),
+    )
 
 pub few_variables : (symbols : List Symbol) (c : WrittenClause) → weight (clause_of symbols c) ≤ 1000 → HasFewVariables c
 few_variables symbols c light =

@@ -1,4 +1,4 @@
-use Rattle.std.proofs.Common.{◌≡◌, ◌∙◌, sym, ap}
+use Rattle.std.proofs.Common.{◌∙◌, sym, ap}
 use Rattle.sc_reading.specs.Numbering.{literal_of, number_in, variable_order}
 use Rattle.sc_problem.specs.Names.{number_among}
 use Rattle.sc_problem.proofs.LoopLaws.{map_turn}

@@ -1,5 +1,4 @@
 use Rattle.std.proofs.Common.{◌≡◌, ◌∙◌, sym, ap, subst, List, ◌∷◌, [], ◌++◌, map, flat_map}
-use Rattle.sc_data.specs.declared.Clause.{Clause}
 use Rattle.sc_term.specs.declared.symbol.Symbol.{Symbol}
 use Rattle.sc_term.specs.Symbol.{same_symbol, equality}
 use Rattle.sc_reading.specs.Syntax.{WrittenClause}

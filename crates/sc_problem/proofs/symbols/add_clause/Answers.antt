@@ -1,4 +1,4 @@
-use Rattle.std.proofs.Common.{◌∙◌, ap, flat_map}
+use Rattle.std.proofs.Common.{◌∙◌, ap}
 use Rattle.sc_term.specs.Symbol.{same_symbol}
 use Rattle.sc_problem.specs.Once.{with_each}
 use Rattle.sc_problem.specs.Names.{literal_symbols, clause_symbols}

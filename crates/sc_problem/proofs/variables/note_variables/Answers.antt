@@ -1,4 +1,4 @@
-use Rattle.std.proofs.Common.{◌≡◌, ◌∙◌, sym, ap, ◌^◌, arith, take, [], ◌∷◌, length}
+use Rattle.std.proofs.Common.{◌∙◌, sym, ap, ◌^◌, arith, take, [], ◌∷◌, length}
 use Rattle.sc_reading.specs.Token.{same_text}
 use Rattle.sc_problem.specs.Once.{with_new, with_each}
 use Rattle.sc_problem.specs.Names.{names_of_variables}

@@ -1,4 +1,4 @@
-use Rattle.std.proofs.Common.{◌≡◌, ◌∙◌, sym, ap, ◌^◌, arith, take, [], length, List, ℕ}
+use Rattle.std.proofs.Common.{◌∙◌, sym, ap, ◌^◌, arith, [], length}
 use Rattle.std.proofs.lemmas.List.{take_all}
 use Rattle.sc_reading.specs.Token.{same_text}
 use Rattle.sc_problem.specs.Once.{with_each}

@@ -1,4 +1,4 @@
-use Rattle.std.proofs.Common.{◌≡◌, ◌∙◌, sym, ap, List, ℕ, map, length, arith}
+use Rattle.std.proofs.Common.{◌≡◌, ◌∙◌, ap, map, length, arith}
 use Rattle.std.proofs.lemmas.List.{length-map}
 use Rattle.sc_reading.specs.Token.{same_text}
 use Rattle.sc_problem.specs.Once.{with_new}
