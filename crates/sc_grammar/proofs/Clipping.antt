@@ -1,12 +1,20 @@
 -- What is lost where the numbers of items are clipped: nothing of a number of at most ten digits, and of a problem's
 -- items nothing but how large a greater one is.
-use Rattle.std.proofs.Common.{◌≡◌, ◌∙◌, sym, ap, refl, ℕ, zero, suc, ◌<◌, min, Bool, true, false, cond, List, [], ◌∷◌, ◌++◌, map, flat_map, ℤ, pos, negsuc, nat_abs, neg_ℤ, arith}
-use Rattle.std.proofs.Math.Nat.{min-eq_left}
+use Rattle.std.proofs.Common.{◌≡◌, ◌∙◌, sym, ap, refl, ℕ, zero, suc, ◌<◌, ◌≤◌, ◌^◌, min, Bool, true, false, ◌&&◌, cond, List, [], ◌∷◌, ◌++◌, map, flat_map, length, ℤ, pos, negsuc, nat_abs, neg_ℤ, arith}
+use Rattle.std.proofs.Math.Nat.{min-eq_left, pow-le-pow_right}
+use Rattle.std.proofs.Math.Dec.{leb}
+use Rattle.std.proofs.lemmas.Bool.{leb-true}
+use Rattle.std.proofs.lemmas.Str.{digit_value_digit}
+use Rattle.std.proofs.lemmas.Int.Digits.{digits_value-lt}
+use Rattle.std.specs.List.{list_all}
+use Rattle.std.specs.Char.{digit_value}
+use Rattle.std.specs.Str.Parse.{AllDigits, digits_value}
+use Rattle.sc_reading.specs.Tokens.{is_digit}
 use Rattle.std.proofs.lemmas.List.Concat.{flat_map-cons}
 use Rattle.sc_reading.specs.declared.settings.Home.{Home}
 use Rattle.sc_reading.specs.Token.{same_text}
 use Rattle.sc_reading.specs.Syntax.{WrittenClause}
-use Rattle.sc_reading.specs.ProblemGrammar.{Item, Setting, Assignment, Listing}
+use Rattle.sc_reading.specs.ProblemGrammar.{value_of, Item, Setting, Assignment, Listing}
 use Rattle.sc_reading.specs.Problem.{last_setting, last_value, listed, listed_clauses}
 use Rattle.sc_grammar.specs.Items.{beyond, clipped, with_clipped}
 
@@ -27,6 +35,31 @@ clipped_exact (negsuc n) small = ap (λ (k : ℕ). neg_ℤ (pos k)) (min-eq_left
 -- where what is answered has at most ten digits it is the number itself
 pub exact_where_small : (z : ℤ) → nat_abs (clipped z) < beyond → clipped z ≡ z
 exact_where_small z small = clipped_exact z (omega (arith, nat_abs-clipped z, small))
+
+and_left : (a b : Bool) → (a && b) ≡ true → a ≡ true
+and_left true b e = refl
+and_left false b e = e
+
+and_right : (a b : Bool) → (a && b) ≡ true → b ≡ true
+and_right true b e = e
+and_right false b e = absurd cc
+
+digit_below : (d : ℕ) → is_digit d ≡ true → digit_value d < 10
+digit_below d e =
+    let low : 48 ≤ d = leb-true 48 d (and_left (leb 48 d) (leb d 57) e) in
+    let high : d ≤ 57 = leb-true d 57 (and_right (leb 48 d) (leb d 57) e) in
+    omega (arith, digit_value_digit d (low, high))
+
+all_below : (ds : List ℕ) → list_all is_digit ds ≡ true → AllDigits 10 ds
+all_below [] e = tt
+all_below (d ∷ ds) e = (digit_below d (and_left (is_digit d) (list_all is_digit ds) e), all_below ds (and_right (is_digit d) (list_all is_digit ds) e))
+
+-- what at most ten digits write is exact
+pub numeral_exact : (ds : List ℕ) → list_all is_digit ds ≡ true → length ds ≤ 10 → clipped (value_of ds) ≡ value_of ds
+numeral_exact ds e short =
+    let below : digits_value 10 ds < 10 ^ length ds = digits_value-lt 10 ds (all_below ds e) in
+    let most : 10 ^ length ds ≤ 10 ^ 10 = pow-le-pow_right {n = 10} (omega arith) short in
+    clipped_exact (value_of ds) (omega (arith, below, most))
 
 -- ---- items
 

@@ -139,8 +139,7 @@ fn item_named<'a>(
     }
 }
 
-/// An item, and the tokens behind it. A value of more than ten digits is answered as the least such number of its
-/// sign.
+/// An item, and the tokens behind it. A value from 10,000,000,000 on, of either sign, is answered as that number.
 pub fn read_item(alloc: Global, tokens: &[Token]) -> Result<(Item, &[Token]), Stop>
     ensures { Gives (λ x. (item_of x.0, x.1.now)) result (told_item tokens.now) }
 {
@@ -182,8 +181,8 @@ fn items_until(
     }
 }
 
-/// The items of a problem that ends with the tokens, and no tokens. A value of more than ten digits is answered as the
-/// least such number of its sign. It stops for want of memory, or at the first token that `problem` doesn't allow.
+/// The items of a problem that ends with the tokens, and no tokens. A value from 10,000,000,000 on, of either sign, is
+/// answered as that number. It stops for want of memory, or at the first token that `problem` doesn't allow.
 pub fn read_problem(alloc: Global, tokens: &[Token]) -> Result<(Items<Item>, &[Token]), Stop>
     ensures { Gives (λ x. (items_of x.0, x.1.now)) result (clipped_items (of.problem tokens.now)) }
 {
@@ -191,8 +190,8 @@ pub fn read_problem(alloc: Global, tokens: &[Token]) -> Result<(Items<Item>, &[T
 }
 
 /// The items of a problem that ends with the tokens or before a word `proof` or `run` in an item's place, and the
-/// tokens from there. A value of more than ten digits is answered as the least such number of its sign. It stops for
-/// want of memory, or at the first token that `items` doesn't allow.
+/// tokens from there. A value from 10,000,000,000 on, of either sign, is answered as that number. It stops for want of
+/// memory, or at the first token that `items` doesn't allow.
 pub fn read_items(alloc: Global, tokens: &[Token]) -> Result<(Items<Item>, &[Token]), Stop>
     ensures { Gives (λ x. (items_of x.0, x.1.now)) result (clipped_items (of.items tokens.now)) }
 {

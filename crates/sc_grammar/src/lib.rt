@@ -2,8 +2,11 @@
 //! definition of its name in `sc_reading` gives: a value and the tokens behind it, or with how many tokens left it
 //! fails, and why (`Stop`). Want of memory alone is free.
 //!
-//! It stands on the readers of one token in `sc_scan`. A reader looks at each token once, and recurs as deep as the
-//! parentheses of a side nest: callers hand on tokens whose nesting they have bounded.
+//! A value from 10,000,000,000 on, of either sign, is answered as that number (`specs/Items.antt`). A value of at most
+//! ten digits is exact, and flags and clauses that items state are the same (`proofs/Clipping.antt`).
+//!
+//! It stands on the readers of one token in `sc_scan`. Time is linear in the tokens read. The readers recur as deep as
+//! the parentheses of a side nest: callers hand on tokens whose nesting they have bounded.
 #![tactic(auto)]
 
 mod clause;

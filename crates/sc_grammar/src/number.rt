@@ -10,7 +10,7 @@ ghost use Rattle.sc_grammar.specs.Items.{beyond, clipped_read, numeral_value};
 use sc_reading::{Sign, Token};
 use sc_scan::{Stop, a_word, stop_at};
 
-// The least number of more than ten digits.
+// Greater than each number of at most ten digits, and so than each number in the range of a parameter.
 const BEYOND: u64 = 10_000_000_000;
 
 fn digit_of(byte: u8) -> Option<u64>
@@ -47,7 +47,7 @@ fn a_numeral(tokens: &[Token]) -> Result<(i64, &[Token]), Stop>
     }
 }
 
-/// Digits, or `-` and digits. A number of more than ten digits is answered as the least such number of its sign.
+/// Digits, or `-` and digits. A value from `BEYOND` on, of either sign, is answered as `BEYOND` with that sign.
 pub fn read_number(tokens: &[Token]) -> Result<(i64, &[Token]), Stop>
     ensures { Gives (λ x. (x.0, x.1.now)) result (clipped_read (of.number tokens.now)) }
 {

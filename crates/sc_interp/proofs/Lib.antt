@@ -4,3 +4,4 @@ pub mod Width
 pub mod Symbols
 pub mod Structures
 pub mod ClaimLaws
+pub mod RowLaws

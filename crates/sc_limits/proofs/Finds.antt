@@ -1,7 +1,7 @@
 -- Finding symbols in one item after another.
-use Rattle.std.proofs.Common.{◌≡◌, ◌∙◌, sym, ap, subst, refl, ℕ, ◌+◌, ◌<◌, Bool, true, false, not, List, [], ◌∷◌, ◌++◌, length, get_or, take, drop, map, filter, append_assoc, arith}
+use Rattle.std.proofs.Common.{◌≡◌, ◌∙◌, sym, ap, subst, refl, ℕ, ◌+◌, ◌<◌, Bool, true, false, not, List, [], ◌∷◌, ◌++◌, length, get_or, take, drop, map, filter, append_assoc}
 use Rattle.std.specs.Prelude.{Option, Some, None, flat_map, if◌then◌else◌}
-use Rattle.std.proofs.lemmas.List.{append-nil, map-append, take_more, drop_more, take-append-drop}
+use Rattle.std.proofs.lemmas.List.{append-nil, map-append, take_more, take-append-drop}
 use Rattle.sc_reading.specs.declared.written.Occurrence.{Occurrence}
 use Rattle.sc_reading.specs.declared.written.WrittenLiteral.{WrittenLiteral}
 use Rattle.sc_reading.specs.Numbering.{Found, is_variable, function_at, found_in}

@@ -1,7 +1,7 @@
 -- What the last literal of a clause so far is with one token more.
-use Rattle.std.proofs.Common.{◌≡◌, ◌∙◌, sym, ap, subst, refl, ℕ, suc, ◌+◌, ◌-◌, ◌≤◌, max, Bool, true, false, not, ◌||◌, List, [], ◌∷◌, ◌++◌, length, drop, reverse, length-append, arith}
+use Rattle.std.proofs.Common.{◌≡◌, ◌∙◌, sym, ap, subst, refl, ℕ, ◌+◌, ◌-◌, max, Bool, true, false, not, ◌||◌, List, [], ◌∷◌, ◌++◌, length, drop, length-append, arith}
 use Rattle.std.specs.Prelude.{if◌then◌else◌}
-use Rattle.std.specs.List.{list_any, after_last, suffix_len, prefix_len}
+use Rattle.std.specs.List.{list_any, after_last, suffix_len}
 use Rattle.std.proofs.lemmas.List.{reverse-append, drop_all, drop-append-le}
 use Rattle.std.proofs.lemmas.List.Sums.{suffix_len-le-length}
 use Rattle.std.proofs.lemmas.List.Folds.{list_any-append}
@@ -10,7 +10,7 @@ use Rattle.sc_reading.specs.declared.token.Token.TheVariants.{Word, Punctuation,
 use Rattle.sc_reading.specs.declared.token.Sign.TheVariants.{Open, Close, Bar, Minus}
 use Rattle.sc_reading.specs.Token.{is_sign}
 use Rattle.sc_reading.specs.ClauseGrammar.{is_equality}
-use Rattle.sc_reading.specs.Measures.{greatest_level, without_bracket, without_minus, last_literal}
+use Rattle.sc_reading.specs.Measures.{greatest_level, without_bracket, without_minus}
 use Rattle.sc_reading.proofs.OneMore.{around_behind, greatest_level-one_more}
 use Rattle.sc_limits.specs.declared.count.Part.{Part}
 use Rattle.sc_limits.specs.declared.count.Part.TheVariants.{Start, Signed, Inside}

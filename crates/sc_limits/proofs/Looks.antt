@@ -5,9 +5,8 @@ use Rattle.sc_reading.specs.declared.written.Occurrence.{Occurrence}
 use Rattle.sc_reading.specs.Numbering.{is_variable, same_name}
 use Rattle.sc_reading.specs.Demodulator.{is_one_variable}
 use Rattle.sc_reading.specs.ClauseLimits.{last_at}
-use Rattle.std.specs.Prelude.{Option, Some, None, nat_lt, codes, if◌then◌else◌}
+use Rattle.std.specs.Prelude.{Some, None, nat_lt, codes, if◌then◌else◌}
 use Rattle.std.specs.List.{list_any, list_all}
-use Rattle.sc_reading.specs.declared.settings.Home.{Home}
 use Rattle.sc_reading.specs.declared.token.Token.{Token}
 use Rattle.sc_reading.specs.Token.{at_of, is_word}
 use Rattle.sc_reading.specs.Position.{opened, home_named}

@@ -1,6 +1,6 @@
 -- Whether a number is outside its range, by its capped value.
-use Rattle.std.proofs.Common.{◌≡◌, ◌∙◌, sym, ap, refl, ℕ, zero, suc, ◌+◌, ◌-◌, ◌≤◌, min, Bool, true, false, not, ◌&&◌, List, [], ◌∷◌, length, get_or, drop, arith, ℤ, pos, negsuc, neg_ℤ, ◌≤ℤ◌}
-use Rattle.std.specs.Prelude.{Ok, Err, Option, Some, None, codes, option_map, option_and_then, nat_lt, int_le, if◌then◌else◌}
+use Rattle.std.proofs.Common.{◌≡◌, ◌∙◌, sym, ap, refl, ℕ, zero, suc, ◌-◌, ◌≤◌, min, Bool, true, false, not, ◌&&◌, List, [], ◌∷◌, length, get_or, drop, arith, ℤ, pos, negsuc, neg_ℤ, ◌≤ℤ◌}
+use Rattle.std.specs.Prelude.{Ok, Err, Option, Some, None, option_map, nat_lt, int_le, if◌then◌else◌}
 use Rattle.std.specs.List.{list_all}
 use Rattle.std.specs.Str.Parse.{digits_value}
 use Rattle.std.proofs.lemmas.Bool.Decides.{nat_tests}
@@ -8,13 +8,11 @@ use Rattle.std.proofs.lemmas.Int.{ints}
 use Rattle.sc_reading.specs.declared.token.Token.{Token}
 use Rattle.sc_reading.specs.declared.token.Token.TheVariants.{Word, Punctuation, Refused}
 use Rattle.sc_reading.specs.declared.token.Sign.TheVariants.{Open, Close, Comma, Stop, Bar, Minus, Equal, Unequal, Colon}
-use Rattle.sc_reading.specs.Token.{is_word}
 use Rattle.sc_reading.specs.Tokens.{is_digit}
 use Rattle.sc_reading.specs.Reader.{Read, ◌>>=◌, unexpected}
 use Rattle.sc_reading.specs.Settings.{Range}
-use Rattle.sc_reading.specs.ClauseLimits.{when, first_at}
-use Rattle.sc_reading.specs.ProblemLimits.{last_digits, is_outside, range_of, out_of_range}
-use Rattle.sc_limits.specs.Numbers.{capped_numeral, capped_number, IsShort, told_at}
+use Rattle.sc_reading.specs.ProblemLimits.{last_digits, is_outside, out_of_range}
+use Rattle.sc_limits.specs.Numbers.{capped_number, IsShort, told_at}
 
 abbrev is_within : Range → ℤ → Bool
 is_within range n = int_le range.low n && int_le n range.high

@@ -1,6 +1,6 @@
 -- What a position is with one token more, and the first fault with one token more.
 use Rattle.std.proofs.Common.{◌≡◌, ◌∙◌, sym, ap, refl, ℕ, Bool, true, false, List, [], ◌∷◌, ◌++◌, take, drop, append_assoc}
-use Rattle.std.specs.Prelude.{Option, Some, None, find, cond, if◌then◌else◌}
+use Rattle.std.specs.Prelude.{Option, Some, None, if◌then◌else◌}
 use Rattle.std.proofs.lemmas.List.{append-nil, take-append-drop}
 use Rattle.sc_reading.specs.declared.fault.Place.{Place}
 use Rattle.sc_reading.specs.declared.settings.Home.{Home}
@@ -10,7 +10,7 @@ use Rattle.sc_reading.specs.Token.{is_sign}
 use Rattle.sc_reading.specs.Position.{Position, position, sentences, clauses_of, home_behind, opened, closes}
 use Rattle.sc_reading.specs.Faults.{passed_behind, first_passed}
 use Rattle.sc_reading.proofs.OneMore.{sentences-stop, sentences-other, home_behind-one_more}
-use Rattle.sc_limits.specs.Positions.{with_token, next_home, clause_ended, behind_stop}
+use Rattle.sc_limits.specs.Positions.{with_token, clause_ended, behind_stop}
 
 abbrev at_cut : List (List Token) × List Token → Position
 at_cut cut = record { clauses = clauses_of None cut.0; home = home_behind None cut.0; sentence = cut.1 }

@@ -1,6 +1,6 @@
 -- Which limit is passed at a position, by where it stands.
-use Rattle.std.proofs.Common.{◌≡◌, ◌∙◌, sym, ap, subst, refl, ℕ, ◌+◌, ◌≤◌, Bool, true, false, not, ◌||◌, List, [], ◌∷◌, ◌++◌, length, map, append_assoc, ◌&&◌, arith}
-use Rattle.std.specs.Prelude.{Option, Some, None, option_map, option_and_then, is_some, find, cond, slice_get, flat_map, nat_le, if◌then◌else◌}
+use Rattle.std.proofs.Common.{◌≡◌, ◌∙◌, sym, ap, subst, refl, ℕ, ◌+◌, ◌≤◌, Bool, true, false, not, ◌||◌, List, [], ◌∷◌, ◌++◌, length, map, ◌&&◌, arith}
+use Rattle.std.specs.Prelude.{Option, Some, None, option_map, option_and_then, is_some, find, cond, flat_map, nat_le, if◌then◌else◌}
 use Rattle.std.proofs.lemmas.List.{append-nil, map-append, length-map, length_push}
 use Rattle.std.proofs.lemmas.Option.{slice_get_past}
 use Rattle.std.proofs.lemmas.Grind.{flat_map-append}
@@ -10,15 +10,15 @@ use Rattle.sc_reading.specs.declared.fault.Place.{Place}
 use Rattle.sc_reading.specs.declared.settings.Home.{Home}
 use Rattle.sc_reading.specs.declared.token.Token.{Token}
 use Rattle.sc_reading.specs.Syntax.{WrittenClause}
-use Rattle.sc_reading.specs.Position.{Position, position, closes, opened}
+use Rattle.sc_reading.specs.Position.{Position, closes}
 use Rattle.sc_reading.specs.Numbering.{Found, found_in, once}
 use Rattle.sc_reading.specs.Faults.{place, passed}
 use Rattle.sc_reading.specs.ClauseLimits.{when, first_at, arity_told, weight_told, depth_told}
 use Rattle.sc_reading.specs.ProblemLimits.{out_of_range, written, is_bad_demodulator, symbols_told, demodulators_told, problem_bounds, problem_limits}
 use Rattle.sc_limits.specs.declared.reached.Reached.{Reached}
 use Rattle.sc_limits.specs.declared.symbols.WrittenSymbol.{WrittenSymbol}
-use Rattle.sc_limits.specs.Symbols.{as_written, same_found, Keeps, one_too_many, KeepsOrTells, FindsMore}
-use Rattle.sc_limits.specs.Positions.{with_token, next_home, clause_ended, behind_stop, behind_clause}
+use Rattle.sc_limits.specs.Symbols.{as_written, same_found, Keeps, one_too_many, FindsMore}
+use Rattle.sc_limits.specs.Positions.{next_home, clause_ended, behind_stop, behind_clause}
 use Rattle.sc_limits.specs.Limits.{clauses_told_behind, fault_in_clause}
 use Rattle.sc_limits.specs.Reached.{found_so_far, Follows, Reaches}
 

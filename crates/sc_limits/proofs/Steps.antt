@@ -1,5 +1,5 @@
 -- From what is known behind some tokens to what is known behind one more.
-use Rattle.std.proofs.Common.{◌≡◌, ◌∙◌, sym, ap, subst, refl, ℕ, ◌+◌, ◌≤◌, ◌<◌, Bool, true, false, List, [], ◌∷◌, ◌++◌, length, take, drop, get_or, length-append, arith}
+use Rattle.std.proofs.Common.{◌≡◌, ◌∙◌, sym, ap, subst, refl, ℕ, ◌+◌, ◌≤◌, ◌<◌, true, false, List, [], ◌∷◌, ◌++◌, length, take, drop, get_or, length-append, arith}
 use Rattle.std.specs.Prelude.{Option, Some, None, option_map, is_some}
 use Rattle.std.proofs.lemmas.List.{take_more, drop_all, drop-append-le, length-take-le}
 use Rattle.sc_reading.specs.declared.fault.InputKind.TheVariants.{OutOfRange}
@@ -10,7 +10,7 @@ use Rattle.sc_reading.specs.declared.token.Sign.TheVariants.{Stop}
 use Rattle.sc_reading.specs.Token.{is_sign}
 use Rattle.sc_reading.specs.Position.{Position, position, clause_so_far}
 use Rattle.sc_reading.specs.Faults.{place, passed, first_passed}
-use Rattle.sc_reading.specs.ProblemLimits.{out_of_range, symbols_told, demodulators_told, problem_bounds, problem_limits, problem_fault_at}
+use Rattle.sc_reading.specs.ProblemLimits.{out_of_range, problem_bounds, problem_limits, problem_fault_at}
 use Rattle.sc_limits.specs.declared.count.ClauseCount.{ClauseCount}
 use Rattle.sc_limits.specs.declared.reached.Reached.{Reached}
 use Rattle.sc_limits.specs.Counted.{Counted}

@@ -1,5 +1,5 @@
 -- Numbers as code has them: what is beyond ten digits stands as 10,000,000,000 with its sign.
-use Rattle.std.specs.Prelude.{ℕ, min, Bool, List, ◌∷◌, Option, Some, None, option_map, ℤ, pos, negsuc, neg_ℤ, ◌≤ℤ◌, codes, option_and_then, if◌then◌else◌}
+use Rattle.std.specs.Prelude.{ℕ, min, List, ◌∷◌, Option, Some, None, option_map, ℤ, pos, negsuc, neg_ℤ, ◌≤ℤ◌, codes, option_and_then, if◌then◌else◌}
 use Rattle.std.specs.List.{list_all}
 use Rattle.std.specs.Str.Parse.{digits_value}
 use Rattle.sc_reading.specs.declared.token.Token.{Token}

@@ -1,5 +1,5 @@
 -- Where no comma stands before a ninth argument, no name has more than eight.
-use Rattle.std.proofs.Common.{◌≡◌, ◌∙◌, sym, ap, subst, refl, ℕ, ◌+◌, ◌-◌, ◌≤◌, Bool, true, false, List, [], ◌∷◌, ◌++◌, append_assoc, arith}
+use Rattle.std.proofs.Common.{◌≡◌, ◌∙◌, sym, ap, subst, refl, ℕ, ◌+◌, ◌-◌, ◌≤◌, List, [], ◌∷◌, ◌++◌, append_assoc, arith}
 use Rattle.std.specs.List.{AllByRecursion}
 use Rattle.sc_data.proofs.SubstitutionLaws.{all_join}
 use Rattle.sc_reading.specs.declared.token.Token.{Token}
@@ -7,7 +7,7 @@ use Rattle.sc_reading.specs.declared.token.Token.TheVariants.{Word, Punctuation}
 use Rattle.sc_reading.specs.declared.token.Sign.TheVariants.{Open, Close, Comma}
 use Rattle.sc_reading.specs.declared.written.Occurrence.{Occurrence}
 use Rattle.sc_reading.specs.Measures.{open_commas, first_or_none, commas_behind}
-use Rattle.sc_reading.proofs.Spelling.{Head, Sides, Empty, Entry, in_brackets, behind_comma, tokens_of, side_tokens, count, occurrence, occurrences, side_of}
+use Rattle.sc_reading.proofs.Spelling.{Head, Sides, Empty, Entry, in_brackets, behind_comma, tokens_of, side_tokens, count, occurrences, side_of}
 
 pub open_commas-append : (commas : List ℕ) (xs ys : List Token) → open_commas commas (xs ++ ys) ≡ open_commas (open_commas commas xs) ys
 open_commas-append commas [] ys = refl

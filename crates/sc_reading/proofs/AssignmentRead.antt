@@ -1,5 +1,5 @@
 -- Where an assignment is read and no limit is passed, its number is in the parameter's range.
-use Rattle.std.proofs.Common.{◌≡◌, ◌∙◌, sym, ap, subst, refl, ℕ, Bool, true, false, List, [], ◌∷◌, ◌++◌, length, append_assoc, Option, Some, None, Ok, Err}
+use Rattle.std.proofs.Common.{◌≡◌, ◌∙◌, sym, ap, subst, refl, ℕ, Bool, true, false, List, [], ◌∷◌, ◌++◌, length, append_assoc, Option, None, Ok, Err}
 use Rattle.std.specs.Prelude.{codes, not, ◌&&◌, nat_lt, ℤ, int_le, option_and_then, if◌then◌else◌}
 use Rattle.sc_data.proofs.SubstitutionLaws.{all_join}
 use Rattle.sc_reading.specs.declared.settings.Home.{Home}
@@ -11,7 +11,7 @@ use Rattle.sc_reading.specs.Reader.{Read, Name, the_sign, a_listed_name}
 use Rattle.sc_reading.specs.Settings.{Range, parameter_words, unsupported_parameters}
 use Rattle.sc_reading.specs.ProblemGrammar.{Item, Assignment, number, the_close, assignment}
 use Rattle.sc_reading.specs.ClauseLimits.{when, first_at}
-use Rattle.sc_reading.specs.ProblemLimits.{problem_bounds, problem_fault_at, range_of, is_outside, last_digits}
+use Rattle.sc_reading.specs.ProblemLimits.{problem_bounds, problem_fault_at, is_outside, last_digits}
 use Rattle.sc_reading.proofs.Taken.{Gives, both, same, sign_taken}
 use Rattle.sc_reading.proofs.Unpassed.{IsClear, is_clear, unpassed_split, unpassed_at}
 use Rattle.sc_reading.proofs.Standing.{HasNoStop, Stands, standing}

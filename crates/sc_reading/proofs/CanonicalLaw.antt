@@ -1,6 +1,6 @@
 -- Numbers by first occurrence are 0, 1, .. where each first occurs.
-use Rattle.std.proofs.Common.{◌≡◌, ◌∙◌, sym, ap, subst, refl, ℕ, zero, suc, ◌+◌, ◌<◌, Bool, true, false, List, [], ◌∷◌, ◌++◌, map, length, length-append, append_assoc, cond, Option, Some, None, arith}
-use Rattle.std.specs.Prelude.{◌||◌, not, nat_eq, nat_lt, position, unwrap_or, if◌then◌else◌}
+use Rattle.std.proofs.Common.{◌≡◌, ◌∙◌, sym, ap, refl, ℕ, zero, suc, ◌+◌, ◌<◌, Bool, true, false, List, [], ◌∷◌, ◌++◌, map, length, length-append, append_assoc, cond, Some, None, arith}
+use Rattle.std.specs.Prelude.{◌||◌, not, nat_eq, nat_lt, unwrap_or, if◌then◌else◌}
 use Rattle.std.specs.List.{AllByRecursion, list_any, position_or_len}
 use Rattle.std.specs.Cmp.Lexicographic.{bytes_decides}
 use Rattle.std.proofs.lemmas.Bool.{eqb-true, eq-eqb}
@@ -11,6 +11,7 @@ use Rattle.sc_reading.specs.Token.{same_text}
 use Rattle.sc_reading.specs.Numbering.{once, number_of, same_name}
 use Rattle.sc_reading.proofs.SymbolNumbers.{less}
 use Rattle.sc_reading.proofs.VariableNumbers.{number}
+use Rattle.sc_reading.proofs.Booleans.{neither}
 
 -- ---- counting
 
@@ -31,10 +32,6 @@ pub counts_itself : (xs : List ℕ) (k : ℕ) → xs ≡ counted 0 k → xs ≡ 
 counts_itself xs k e = e ∙ ap (counted 0) (sym (counted-length 0 k) ∙ ap length (sym e)) ∙ sym (counting-counted 0 xs)
 
 -- ---- the number of an element that is new
-
-neither : (a b : Bool) → (a || b) ≡ false → (a ≡ false) × (b ≡ false)
-neither true b e = absurd cc
-neither false b e = (refl, e)
 
 first-passing : (p : Occurrence → Bool) (front : List Occurrence) (x : Occurrence) (more : List Occurrence) → list_any p front ≡ false → p x ≡ true → position_or_len p (front ++ x ∷ more) ≡ length front
 first-passing p [] x more none e = ap (λ (b : Bool). cond (not b) (1 + position_or_len p more) 0) e

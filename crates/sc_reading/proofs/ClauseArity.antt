@@ -1,18 +1,16 @@
 -- No name of a clause has more than eight arguments, where no comma before a ninth stands in its tokens.
-use Rattle.std.proofs.Common.{◌≡◌, ◌∙◌, sym, ap, subst, refl, ℕ, ◌+◌, ◌≤◌, Bool, true, false, List, [], ◌∷◌, ◌++◌, map, arith}
+use Rattle.std.proofs.Common.{◌≡◌, ◌∙◌, sym, ap, subst, refl, ℕ, Bool, true, false, List, [], ◌∷◌, ◌++◌, map, arith}
 use Rattle.std.specs.Prelude.{flat_map}
 use Rattle.std.specs.List.{AllByRecursion}
 use Rattle.sc_data.proofs.SubstitutionLaws.{all_join}
-use Rattle.sc_reading.specs.declared.token.Token.{Token}
-use Rattle.sc_reading.specs.declared.token.Token.TheVariants.{Word, Punctuation}
-use Rattle.sc_reading.specs.declared.token.Sign.TheVariants.{Open, Close, Bar, Minus}
-use Rattle.sc_reading.specs.declared.written.Occurrence.{Occurrence}
+use Rattle.sc_reading.specs.declared.token.Token.TheVariants.{Punctuation}
+use Rattle.sc_reading.specs.declared.token.Sign.TheVariants.{Bar}
 use Rattle.sc_reading.specs.declared.written.WrittenLiteral.{WrittenLiteral}
 use Rattle.sc_reading.specs.Measures.{open_commas}
-use Rattle.sc_reading.proofs.Spelling.{Head, Sides, side_tokens, side_of, count, occurrence, occurrences}
-use Rattle.sc_reading.proofs.ClauseSpelling.{Equated, Atom, Plain, Equation, Wrapping, Bare, Negative, Brackets, NegativeBrackets, LiteralTree, ClauseTree, Falsum, Literals, equal_sign, atom_tokens, opening_tokens, closing_tokens, literal_tokens, behind_bar, clause_tokens, atom_written, literal_written, clause_written}
+use Rattle.sc_reading.proofs.Spelling.{side_tokens, side_of}
+use Rattle.sc_reading.proofs.ClauseSpelling.{Atom, Plain, Equation, Wrapping, Bare, Negative, Brackets, NegativeBrackets, LiteralTree, ClauseTree, Falsum, Literals, equal_sign, atom_tokens, opening_tokens, closing_tokens, literal_tokens, behind_bar, clause_tokens, atom_written, literal_written, clause_written}
 use Rattle.sc_reading.proofs.ArityLaw.{FewCommas, SmallArity, few_front, few_back, open_commas-append, side-commas, side-arity}
-use Rattle.sc_reading.proofs.ClauseParts.{literals_in, wrapped-arguments, wrapped-predicate}
+use Rattle.sc_reading.proofs.ClauseParts.{wrapped-arguments, wrapped-predicate}
 
 -- every name of the literal has at most eight arguments
 pub record IsNarrow (l : WrittenLiteral) : Type 0 where

@@ -1,5 +1,5 @@
 -- A literal is at most as deep as is counted over its tokens.
-use Rattle.std.proofs.Common.{◌≡◌, ◌∙◌, sym, ap, subst, refl, ℕ, ◌+◌, ◌-◌, ◌≤◌, max, Bool, true, false, List, [], ◌∷◌, ◌++◌, map, length, length-append, append_assoc, drop, reverse, Option, arith}
+use Rattle.std.proofs.Common.{◌≡◌, ◌∙◌, sym, ap, refl, ℕ, ◌+◌, ◌-◌, ◌≤◌, max, Bool, true, false, List, [], ◌∷◌, ◌++◌, map, length, length-append, append_assoc, drop, reverse, Option, arith}
 use Rattle.std.specs.Prelude.{◌||◌, not, flat_map, cond, if◌then◌else◌}
 use Rattle.std.specs.List.{AllByRecursion, list_any, after_last, suffix_len, prefix_len}
 use Rattle.std.proofs.lemmas.List.{append-nil, reverse-append}
@@ -15,10 +15,10 @@ use Rattle.sc_reading.specs.declared.token.Sign.TheVariants.{Bar}
 use Rattle.sc_reading.specs.declared.written.Occurrence.{Occurrence}
 use Rattle.sc_reading.specs.Token.{is_sign}
 use Rattle.sc_reading.specs.ClauseGrammar.{is_equality}
-use Rattle.sc_reading.specs.Measures.{greatest_level, without_bracket, without_minus, last_literal, depth_of_atom, depth_so_far}
+use Rattle.sc_reading.specs.Measures.{greatest_level, without_bracket, without_minus, depth_of_atom, depth_so_far}
 use Rattle.sc_reading.specs.Numbering.{literal_of, clause_of, number_in, variable_order}
 use Rattle.sc_reading.proofs.Spelling.{Head, Sides, Empty, Entry, in_brackets, tokens_of, side_tokens, occurrence}
-use Rattle.sc_reading.proofs.ClauseSpelling.{Equated, Atom, Plain, Equation, Wrapping, Bare, Negative, Brackets, NegativeBrackets, LiteralTree, ClauseTree, Falsum, Literals, equal_sign, atom_tokens, opening_tokens, closing_tokens, literal_tokens, behind_bar, clause_tokens, literal_written, clause_written, Fits}
+use Rattle.sc_reading.proofs.ClauseSpelling.{Equated, Atom, Plain, Equation, Wrapping, Bare, Negative, Brackets, NegativeBrackets, LiteralTree, ClauseTree, Falsum, Literals, equal_sign, atom_tokens, opening_tokens, closing_tokens, literal_tokens, behind_bar, clause_tokens, literal_written, clause_written}
 use Rattle.sc_reading.proofs.NoStop.{literal_no_bar}
 use Rattle.sc_reading.proofs.Terms.{term_from, terms, sides_under}
 use Rattle.sc_reading.proofs.DepthLaw.{largest-cons, depth_of, Levels, bracket-levels, sides-levels}

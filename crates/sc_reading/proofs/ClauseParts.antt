@@ -1,16 +1,11 @@
 -- The literals of a clause as a list, each with the arguments of its atom.
-use Rattle.std.proofs.Common.{◌≡◌, ◌∙◌, sym, ap, refl, ℕ, Bool, true, false, List, [], ◌∷◌, ◌++◌, map, Option}
-use Rattle.std.specs.Prelude.{flat_map}
-use Rattle.std.specs.List.{AllByRecursion}
-use Rattle.sc_data.specs.declared.Literal.{Literal}
+use Rattle.std.proofs.Common.{◌≡◌, ◌∙◌, ap, refl, ℕ, List, [], ◌∷◌, map, Option}
 use Rattle.sc_term.specs.declared.symbol.Symbol.{Symbol}
-use Rattle.sc_reading.specs.declared.token.Token.{Token}
 use Rattle.sc_reading.specs.declared.written.Occurrence.{Occurrence}
 use Rattle.sc_reading.specs.declared.written.WrittenLiteral.{WrittenLiteral}
-use Rattle.sc_reading.specs.Syntax.{WrittenClause}
 use Rattle.sc_reading.specs.Numbering.{terms_of, literal_of}
 use Rattle.sc_reading.proofs.Spelling.{occurrences}
-use Rattle.sc_reading.proofs.ClauseSpelling.{Atom, Wrapping, Bare, Negative, Brackets, NegativeBrackets, LiteralTree, ClauseTree, Falsum, Literals, atom_written, wrapped, literal_written, clause_written, IsSpelt, IsSpeltClause}
+use Rattle.sc_reading.proofs.ClauseSpelling.{Wrapping, Bare, Negative, Brackets, NegativeBrackets, LiteralTree, ClauseTree, Falsum, Literals, atom_written, wrapped, literal_written, clause_written}
 use Rattle.sc_reading.proofs.Terms.{terms, terms_of-alone, sides_under, sides_under-arguments}
 
 abbrev pub literals_in : ClauseTree → List LiteralTree
@@ -24,14 +19,6 @@ written_others (b ∷ bs) = ap (λ ls. literal_written b.1 ∷ ls) (written_othe
 pub written-literals : (c : ClauseTree) → clause_written c ≡ map literal_written (literals_in c)
 written-literals (Falsum at) = refl
 written-literals (Literals l bs) = ap (λ ls. literal_written l ∷ ls) (written_others bs)
-
-pub all_others : (P : LiteralTree → Type 0) (bs : List (ℕ × LiteralTree)) → AllByRecursion (λ (b : ℕ × LiteralTree). P b.1) bs → AllByRecursion P (map (λ (b : ℕ × LiteralTree). b.1) bs)
-all_others P [] h = tt
-all_others P (b ∷ bs) h = (h.0, all_others P bs h.1)
-
-pub spelt-literals : (c : ClauseTree) → IsSpeltClause c → AllByRecursion IsSpelt (literals_in c)
-spelt-literals (Falsum at) s = tt
-spelt-literals (Literals l bs) s = (s.0, all_others IsSpelt bs s.1)
 
 -- ---- a literal
 

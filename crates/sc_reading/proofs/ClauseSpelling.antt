@@ -1,5 +1,5 @@
 -- Literals and clauses as trees, each with the tokens that spell it and the written form that is read of those.
-use Rattle.std.proofs.Common.{◌≡◌, ℕ, Bool, true, false, List, [], ◌∷◌, ◌++◌, map}
+use Rattle.std.proofs.Common.{ℕ, Bool, true, false, List, [], ◌∷◌, ◌++◌, map}
 use Rattle.std.specs.Prelude.{codes, flat_map}
 use Rattle.std.specs.List.{AllByRecursion}
 use Rattle.sc_reading.specs.declared.token.Token.{Token}

@@ -1,20 +1,19 @@
 -- A clause weighs at most what its tokens count.
-use Rattle.std.proofs.Common.{◌≡◌, ◌∙◌, sym, ap, refl, ℕ, ◌+◌, ◌≤◌, Bool, true, false, List, [], ◌∷◌, ◌++◌, map, sum, Option, arith}
+use Rattle.std.proofs.Common.{◌≡◌, ap, refl, ℕ, ◌+◌, ◌≤◌, Bool, true, false, List, [], ◌∷◌, ◌++◌, map, sum, Option, arith}
 use Rattle.std.specs.Prelude.{flat_map}
 use Rattle.sc_data.specs.declared.Term.{Term}
-use Rattle.sc_data.specs.declared.Literal.{Literal}
 use Rattle.sc_data.specs.Term.{term_weight}
 use Rattle.sc_data.specs.Clause.{literal_weight, weight}
 use Rattle.sc_term.specs.declared.symbol.Symbol.{Symbol}
 use Rattle.sc_reading.specs.declared.token.Token.{Token}
-use Rattle.sc_reading.specs.declared.token.Token.TheVariants.{Word, Punctuation}
+use Rattle.sc_reading.specs.declared.token.Token.TheVariants.{Punctuation}
 use Rattle.sc_reading.specs.declared.token.Sign.TheVariants.{Bar}
 use Rattle.sc_reading.specs.declared.written.Occurrence.{Occurrence}
 use Rattle.sc_reading.specs.Measures.{has_weight, weight_so_far}
 use Rattle.sc_reading.specs.Numbering.{literal_of, clause_of, number_in, variable_order}
-use Rattle.sc_reading.proofs.Spelling.{Head, Sides, Empty, Entry, tokens_of, side_tokens}
-use Rattle.sc_reading.proofs.ClauseSpelling.{Equated, Atom, Plain, Equation, Wrapping, Bare, Negative, Brackets, NegativeBrackets, LiteralTree, ClauseTree, Falsum, Literals, equal_sign, atom_tokens, opening_tokens, closing_tokens, literal_tokens, behind_bar, clause_tokens, literal_written, clause_written}
-use Rattle.sc_reading.proofs.Terms.{terms, sides_under}
+use Rattle.sc_reading.proofs.Spelling.{Empty, Entry, tokens_of, side_tokens}
+use Rattle.sc_reading.proofs.ClauseSpelling.{Atom, Plain, Equation, Wrapping, Bare, Negative, Brackets, NegativeBrackets, LiteralTree, ClauseTree, Falsum, Literals, equal_sign, atom_tokens, opening_tokens, closing_tokens, literal_tokens, behind_bar, clause_tokens, literal_written, clause_written}
+use Rattle.sc_reading.proofs.Terms.{sides_under}
 use Rattle.sc_reading.proofs.WeightLaw.{weight-append, sum-cons, side-weight, sides-weight, terms-light, sign-weight}
 use Rattle.sc_reading.proofs.ClauseParts.{literal-args}
 

@@ -1,5 +1,5 @@
 -- A clause of a list at which no limit is passed keeps the limits, in each of its parts from its first token on.
-use Rattle.std.proofs.Common.{◌≡◌, ◌∙◌, sym, ap, subst, refl, ℕ, suc, ◌+◌, ◌<◌, ◌≤◌, Bool, true, false, List, [], ◌∷◌, ◌++◌, length, Option, Some, None, arith, length-append}
+use Rattle.std.proofs.Common.{◌≡◌, subst, refl, ℕ, suc, ◌+◌, ◌<◌, ◌≤◌, Bool, true, false, List, [], ◌∷◌, ◌++◌, length, Option, Some, None, arith, length-append}
 use Rattle.std.proofs.lemmas.Bool.{leb-false}
 use Rattle.std.specs.Prelude.{codes, not, ◌&&◌, nat_le, nat_lt}
 use Rattle.sc_reading.specs.declared.settings.Home.{Home}
@@ -7,15 +7,13 @@ use Rattle.sc_reading.specs.declared.token.Token.{Token}
 use Rattle.sc_reading.specs.declared.token.Token.TheVariants.{Punctuation}
 use Rattle.sc_reading.specs.declared.token.Sign.TheVariants.{Stop}
 use Rattle.sc_reading.specs.Token.{at_of, is_word}
-use Rattle.sc_reading.specs.Reader.{next_is}
-use Rattle.sc_reading.specs.Position.{Position, position, closes}
+use Rattle.sc_reading.specs.Position.{closes}
 use Rattle.sc_reading.specs.Measures.{weight_so_far, depth_so_far, arguments_so_far}
 use Rattle.sc_reading.specs.Faults.{passed_behind}
 use Rattle.sc_reading.specs.ClauseLimits.{when, last_at}
 use Rattle.sc_reading.specs.ProblemLimits.{problem_bounds, problem_fault_at}
 use Rattle.sc_reading.proofs.Unpassed.{IsClear, is_clear, unpassed_split, unpassed_at}
-use Rattle.sc_reading.proofs.Standing.{HasNoStop, AreWhole, Stands, standing, standing_ended, stands_behind}
-use Rattle.sc_data.proofs.SubstitutionLaws.{all_split}
+use Rattle.sc_reading.proofs.Standing.{HasNoStop, Stands, standing, standing_ended, stands_behind}
 
 -- no limit is passed at these tokens, which stand behind earlier ones
 abbrev pub IsUnpassed : List Token → List Token → Type 0

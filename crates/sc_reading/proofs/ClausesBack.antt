@@ -1,16 +1,15 @@
 -- The tokens that spell a clause are read as that clause.
-use Rattle.std.proofs.Common.{◌≡◌, ◌∙◌, ap, refl, ℕ, zero, suc, ◌+◌, ◌≤◌, Bool, true, false, List, [], ◌∷◌, ◌++◌, map, length, append_assoc, Ok, Err, arith}
+use Rattle.std.proofs.Common.{◌≡◌, ◌∙◌, ap, refl, ℕ, zero, suc, ◌+◌, ◌≤◌, Bool, true, false, List, [], ◌∷◌, ◌++◌, length, append_assoc, Ok, Err, arith}
 use Rattle.std.specs.Prelude.{codes, flat_map}
-use Rattle.std.specs.List.{AllByRecursion}
 use Rattle.std.proofs.lemmas.List.{append-nil, length-append}
 use Rattle.sc_reading.specs.declared.token.Token.{Token}
-use Rattle.sc_reading.specs.declared.token.Token.TheVariants.{Word, Punctuation}
-use Rattle.sc_reading.specs.declared.token.Sign.TheVariants.{Open, Close, Bar, Minus}
+use Rattle.sc_reading.specs.declared.token.Token.TheVariants.{Punctuation}
+use Rattle.sc_reading.specs.declared.token.Sign.TheVariants.{Open, Close, Bar}
 use Rattle.sc_reading.specs.Token.{is_sign, is_word}
 use Rattle.sc_reading.specs.Reader.{Read, ◌>>=◌, next_is, the_sign, separated}
 use Rattle.sc_reading.specs.declared.written.WrittenLiteral.{WrittenLiteral}
 use Rattle.sc_reading.specs.Syntax.{Side, WrittenClause}
-use Rattle.sc_reading.specs.ClauseGrammar.{bracketed, side, equation_of, right_of, equation, atom_of, is_equality, plain_literal, bracketed_or, negative_atom, negated, literal, without_first, clause}
+use Rattle.sc_reading.specs.ClauseGrammar.{bracketed, side, equation_of, right_of, equation, atom_of, is_equality, plain_literal, bracketed_or, negated, literal, without_first, clause}
 use Rattle.sc_reading.specs.ProblemLimits.{written}
 use Rattle.sc_reading.proofs.Spelling.{Head, Sides, side_tokens, side_of, IsName, AreNames}
 use Rattle.sc_reading.proofs.ClauseSpelling.{Equated, Atom, Plain, Equation, Wrapping, Bare, Negative, Brackets, NegativeBrackets, LiteralTree, ClauseTree, Falsum, Literals, equal_sign, atom_tokens, literal_tokens, behind_bar, clause_tokens, atom_written, literal_written, clause_written, HasNames, Fits, IsSpelt, IsSpeltClause}

@@ -1,18 +1,17 @@
 -- Where a clause is read, it is that of a tree, and the tokens are those that spell it.
-use Rattle.std.proofs.Common.{◌≡◌, ◌∙◌, sym, ap, subst, refl, ℕ, zero, suc, Bool, true, false, List, [], ◌∷◌, ◌++◌, map, length, append_assoc, Ok}
+use Rattle.std.proofs.Common.{◌≡◌, ◌∙◌, sym, ap, subst, refl, ℕ, zero, suc, Bool, true, false, List, [], ◌∷◌, ◌++◌, length, append_assoc, Ok}
 use Rattle.std.specs.Prelude.{codes, flat_map}
-use Rattle.std.specs.List.{AllByRecursion}
 use Rattle.std.specs.Cmp.Lexicographic.{bytes_decides}
 use Rattle.std.proofs.lemmas.List.{append-nil}
 use Rattle.sc_reading.specs.declared.token.Token.{Token}
 use Rattle.sc_reading.specs.declared.token.Token.TheVariants.{Word, Punctuation, Refused}
 use Rattle.sc_reading.specs.declared.token.Sign.TheVariants.{Bar}
 use Rattle.sc_reading.specs.Token.{is_sign, is_word}
-use Rattle.sc_reading.specs.Reader.{Read, ◌>>=◌, next_is, the_sign, separated}
+use Rattle.sc_reading.specs.Reader.{◌>>=◌, next_is, the_sign, separated}
 use Rattle.sc_reading.specs.declared.written.WrittenLiteral.{WrittenLiteral}
 use Rattle.sc_reading.specs.Syntax.{WrittenClause}
 use Rattle.sc_reading.specs.ClauseGrammar.{literal, without_first, clause}
-use Rattle.sc_reading.proofs.ClauseSpelling.{LiteralTree, ClauseTree, Falsum, Literals, literal_tokens, behind_bar, clause_tokens, literal_written, clause_written, IsSpelt, IsSpeltClause}
+use Rattle.sc_reading.proofs.ClauseSpelling.{LiteralTree, ClauseTree, Falsum, Literals, literal_tokens, behind_bar, clause_tokens, clause_written, IsSpeltClause}
 use Rattle.sc_reading.proofs.Taken.{Gives, both, same, sign_taken}
 use Rattle.sc_reading.proofs.LiteralsRead.{LiteralRead, literal_read}
 

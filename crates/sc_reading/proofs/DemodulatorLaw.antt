@@ -1,45 +1,31 @@
 -- A written clause that may stand in demodulators is, as a clause of terms, one that rewrites.
-use Rattle.std.proofs.Common.{◌≡◌, ◌∙◌, sym, ap, subst, refl, ℕ, ◌<◌, Bool, true, false, List, [], ◌∷◌, ◌++◌, map, length, cond, Option, Some, None, arith}
-use Rattle.std.specs.Prelude.{codes, not, ◌&&◌, ◌==◌, nat_eq, nat_lt, filter, slice_get, position, unwrap_or}
+use Rattle.std.proofs.Common.{◌≡◌, ◌∙◌, sym, ap, refl, ℕ, Bool, true, false, List, [], ◌∷◌, ◌++◌, map, Option, Some, None}
+use Rattle.std.specs.Prelude.{codes, not, ◌&&◌, nat_eq, filter}
 use Rattle.std.specs.List.{AllByRecursion, list_any, list_all}
 use Rattle.std.specs.Cmp.Lexicographic.{bytes_decides}
-use Rattle.std.proofs.lemmas.List.{append-nil}
 use Rattle.sc_data.specs.declared.SymId.{SymId}
-use Rattle.sc_data.specs.declared.Term.{Term}
 use Rattle.sc_data.specs.declared.Term.TheVariants.{Var, App}
-use Rattle.sc_data.specs.declared.Literal.{Literal}
-use Rattle.sc_data.specs.Term.{term_variables}
 use Rattle.sc_data.proofs.TermLaws.{fold-App}
 use Rattle.sc_term.specs.declared.symbol.Symbol.{Symbol}
 use Rattle.sc_term.specs.Symbol.{equality}
-use Rattle.sc_reading.specs.declared.token.Token.{Token}
 use Rattle.sc_reading.specs.declared.token.Token.TheVariants.{Word}
 use Rattle.sc_reading.specs.Token.{same_text, is_word}
 use Rattle.sc_reading.specs.declared.written.Occurrence.{Occurrence}
 use Rattle.sc_reading.specs.declared.written.WrittenLiteral.{WrittenLiteral}
-use Rattle.sc_reading.specs.Syntax.{WrittenClause}
 use Rattle.sc_reading.specs.Numbering.{is_variable, same_name, variable_order, function_at, symbol_number, terms_of, literal_of, number_in, clause_of}
 use Rattle.sc_reading.specs.ClauseGrammar.{equation_of}
-use Rattle.sc_reading.specs.Demodulator.{is_equation, left_side, right_side, is_one_variable, left_holds_right, is_demodulator}
+use Rattle.sc_reading.specs.Demodulator.{is_equation, left_side, is_one_variable, left_holds_right, is_demodulator}
 use Rattle.sc_reading.specs.WellFormed.{variable_step, is_variable_term, are_rewriting_sides, is_rewriting}
-use Rattle.sc_reading.proofs.Spelling.{Head, Sides, Empty, Entry, occurrence, occurrences, side_of, side_tokens}
-use Rattle.sc_reading.proofs.ClauseSpelling.{Equated, Atom, Plain, Equation, Wrapping, Bare, Negative, Brackets, NegativeBrackets, LiteralTree, ClauseTree, Falsum, Literals, atom_tokens, opening_tokens, closing_tokens, literal_tokens, clause_tokens, atom_written, wrapped, literal_written, clause_written}
+use Rattle.sc_reading.proofs.Spelling.{Head, Sides, occurrence, side_of}
+use Rattle.sc_reading.proofs.ClauseSpelling.{Equated, Atom, Plain, Equation, Wrapping, Bare, Negative, Brackets, NegativeBrackets, ClauseTree, Falsum, Literals, atom_tokens, opening_tokens, closing_tokens, literal_tokens, clause_tokens, atom_written, wrapped, clause_written}
 use Rattle.sc_reading.proofs.Terms.{term_from, terms, terms_of-alone, sides_under, sides_under-arguments}
-use Rattle.sc_reading.proofs.ClauseParts.{literal-args, literal-arguments, wrapped-arguments, wrapped-predicate}
-use Rattle.sc_reading.proofs.FairTokens.{AreFair, fair_split}
-use Rattle.sc_reading.proofs.VariableNumbers.{number, IsPlaced, numbers_of, number_in-other, term-variables, terms-variables, variables-placed}
+use Rattle.sc_reading.proofs.ClauseParts.{wrapped-predicate}
+use Rattle.sc_reading.proofs.Tokenized.{AreTokenized, tokenized_split}
+use Rattle.sc_reading.proofs.VariableNumbers.{number, IsPlaced, number_in-other, term-variables, terms-variables, variables-placed}
 use Rattle.sc_reading.proofs.CanonicalLaw.{old-number}
 use Rattle.sc_reading.proofs.SidesOfEquation.{AreSides, sides_of_equation}
 use Rattle.sc_data.proofs.SubstitutionLaws.{all_split}
-
-both_true : (a b : Bool) → (a && b) ≡ true → (a ≡ true) × (b ≡ true)
-both_true true b e = (refl, e)
-both_true false b e = absurd cc
-
-both : (a b : Bool) → a ≡ true → b ≡ true → (a && b) ≡ true
-both true true e k = refl
-both true false e k = k
-both false b e k = e
+use Rattle.sc_reading.proofs.Booleans.{both_hold, parts_hold}
 
 not_true : (b : Bool) → not b ≡ true → b ≡ false
 not_true true e = absurd cc
@@ -59,8 +45,8 @@ module _ (order : List Occurrence) (symbols : List Symbol) where
   held : (os left : List Occurrence) → list_all (λ o. list_any (same_name o) left) os ≡ true → list_all (λ n. list_any (nat_eq n) (map (number order) left)) (map (number order) os) ≡ true
   held [] left e = refl
   held (o ∷ os) left e =
-      let s = both_true (list_any (same_name o) left) (list_all (λ o. list_any (same_name o) left) os) e in
-      both (list_any (nat_eq (number order o)) (map (number order) left)) _ (old-number order o left s.0) (held os left s.1)
+      let s = parts_hold (list_any (same_name o) left) (list_all (λ o. list_any (same_name o) left) os) e in
+      both_hold (list_any (nat_eq (number order o)) (map (number order) left)) _ (old-number order o left s.0) (held os left s.1)
 
   sides-rewrite : (e : Equated) → AllByRecursion (IsPlaced order) (side_of e.left_head e.left_args ++ side_of e.right_head e.right_args) → is_variable (occurrence e.left_head e.left_args) ≡ false
       → list_all (λ o. list_any (same_name o) (filter is_variable (side_of e.left_head e.left_args))) (filter is_variable (side_of e.right_head e.right_args)) ≡ true
@@ -69,7 +55,7 @@ module _ (order : List Occurrence) (symbols : List Symbol) where
       let s = all_split (IsPlaced order) (side_of e.left_head e.left_args) (side_of e.right_head e.right_args) placed in
       let left = term-variables order symbols e.left_head e.left_args s.0.0 (terms-variables order symbols e.left_args s.0.1) in
       let right = term-variables order symbols e.right_head e.right_args s.1.0 (terms-variables order symbols e.right_args s.1.1) in
-      both _ _ (ap not (left-no-variable e.left_head e.left_args no_variable))
+      both_hold _ _ (ap not (left-no-variable e.left_head e.left_args no_variable))
       ((λ i. list_all (λ n. list_any (nat_eq n) (left i)) (right i)) ∙ held (filter is_variable (side_of e.right_head e.right_args)) (filter is_variable (side_of e.left_head e.left_args)) holds)
 
 -- ---- literals
@@ -83,9 +69,9 @@ is_no_equation h args w other e =
 
 is_equation_there : (l : WrittenLiteral) → is_demodulator (l ∷ []) ≡ true → is_equation l ≡ true
 is_equation_there l e =
-    let a = both_true (l.positive && is_equation l && not (is_one_variable (left_side l))) (left_holds_right l) e in
-    let b = both_true (l.positive && is_equation l) (not (is_one_variable (left_side l))) a.0 in
-    (both_true l.positive (is_equation l) b.0).1
+    let a = parts_hold (l.positive && is_equation l && not (is_one_variable (left_side l))) (left_holds_right l) e in
+    let b = parts_hold (l.positive && is_equation l) (not (is_one_variable (left_side l))) a.0 in
+    (parts_hold l.positive (is_equation l) b.0).1
 
 equation-case : (symbols : List Symbol) (positive : Bool) (q : Equated) → symbol_number symbols equality ≡ record { 0 = 0 } → AreSides (equation_of positive q.at (side_of q.left_head q.left_args) (side_of q.right_head q.right_args)) q
     → is_demodulator (equation_of positive q.at (side_of q.left_head q.left_args) (side_of q.right_head q.right_args) ∷ []) ≡ true
@@ -95,25 +81,25 @@ equation-case : (symbols : List Symbol) (positive : Bool) (q : Equated) → symb
 equation-case symbols positive q zeroth sides e =
     let l = equation_of positive q.at (side_of q.left_head q.left_args) (side_of q.right_head q.right_args) in
     let order = variable_order (l ∷ []) in
-    let last = both_true (positive && is_equation l && not (is_one_variable (left_side l))) (left_holds_right l) e in
-    let rest = both_true (positive && is_equation l) (not (is_one_variable (left_side l))) last.0 in
-    let first = both_true positive (is_equation l) rest.0 in
+    let last = parts_hold (positive && is_equation l && not (is_one_variable (left_side l))) (left_holds_right l) e in
+    let rest = parts_hold (positive && is_equation l) (not (is_one_variable (left_side l))) last.0 in
+    let first = parts_hold positive (is_equation l) rest.0 in
     let no_variable : is_variable (occurrence q.left_head q.left_args) ≡ false = sym (ap is_one_variable sides.left) ∙ not_true (is_one_variable (left_side l)) rest.1 in
     let holds : list_all (λ o. list_any (same_name o) (filter is_variable (side_of q.left_head q.left_args))) (filter is_variable (side_of q.right_head q.right_args)) ≡ true =
     sym (λ i. list_all (λ o. list_any (same_name o) (filter is_variable (sides.left i))) (filter is_variable (sides.right i))) ∙ last.1 in
     let args = ap (terms_of (number_in order) symbols) (sides_under-arguments (Equation q)) ∙ terms_of-alone (number_in order) symbols (sides_under (Equation q)) in
-    both (positive && nat_eq (symbol_number symbols equality).0 0) (are_rewriting_sides (terms_of (number_in order) symbols l.arguments))
-    (both positive (nat_eq (symbol_number symbols equality).0 0) first.0 (ap (λ (f : SymId). nat_eq f.0 0) zeroth))
+    both_hold (positive && nat_eq (symbol_number symbols equality).0 0) (are_rewriting_sides (terms_of (number_in order) symbols l.arguments))
+    (both_hold positive (nat_eq (symbol_number symbols equality).0 0) first.0 (ap (λ (f : SymId). nat_eq f.0 0) zeroth))
     (ap are_rewriting_sides args ∙ sides-rewrite order symbols q (variables-placed (l ∷ [])).0 no_variable holds)
 
-demodulator-literal : (symbols : List Symbol) (w : Wrapping) (a : Atom) → symbol_number symbols equality ≡ record { 0 = 0 } → AreFair (atom_tokens a)
+demodulator-literal : (symbols : List Symbol) (w : Wrapping) (a : Atom) → symbol_number symbols equality ≡ record { 0 = 0 } → AreTokenized (atom_tokens a)
     → is_demodulator (wrapped w (atom_written a) ∷ []) ≡ true → is_rewriting (literal_of (number_in (variable_order (wrapped w (atom_written a) ∷ []))) symbols (wrapped w (atom_written a)) ∷ []) ≡ true
-demodulator-literal symbols w (Plain h args) zeroth fair e =
-    absurd (is_no_equation h args w fair.words.0 (is_equation_there (wrapped w (atom_written (Plain h args))) e))
-demodulator-literal symbols w (Equation q) zeroth fair e = by w e
+demodulator-literal symbols w (Plain h args) zeroth tokenized e =
+    absurd (is_no_equation h args w tokenized.words.0 (is_equation_there (wrapped w (atom_written (Plain h args))) e))
+demodulator-literal symbols w (Equation q) zeroth tokenized e = by w e
   where
     sides : AreSides (atom_written (Equation q)) q
-    sides = sides_of_equation q fair.order
+    sides = sides_of_equation q tokenized.order
 
     by : (w : Wrapping) → is_demodulator (wrapped w (atom_written (Equation q)) ∷ []) ≡ true
         → is_rewriting (literal_of (number_in (variable_order (wrapped w (atom_written (Equation q)) ∷ []))) symbols (wrapped w (atom_written (Equation q))) ∷ []) ≡ true
@@ -124,11 +110,11 @@ demodulator-literal symbols w (Equation q) zeroth fair e = by w e
 
 -- ---- clauses
 
-pub demodulator-rewrites : (symbols : List Symbol) (c : ClauseTree) → symbol_number symbols equality ≡ record { 0 = 0 } → AreFair (clause_tokens c) → is_demodulator (clause_written c) ≡ true
+pub demodulator-rewrites : (symbols : List Symbol) (c : ClauseTree) → symbol_number symbols equality ≡ record { 0 = 0 } → AreTokenized (clause_tokens c) → is_demodulator (clause_written c) ≡ true
     → is_rewriting (clause_of symbols (clause_written c)).literals ≡ true
-demodulator-rewrites symbols (Falsum at) zeroth fair e = absurd cc
-demodulator-rewrites symbols (Literals l (b ∷ bs)) zeroth fair e = absurd cc
-demodulator-rewrites symbols (Literals l []) zeroth fair e =
-    let whole = (fair_split (literal_tokens l) [] fair).0 in
-    let inner = (fair_split (opening_tokens l.wrapping) (atom_tokens l.atom ++ closing_tokens l.wrapping) whole).1 in
-    demodulator-literal symbols l.wrapping l.atom zeroth (fair_split (atom_tokens l.atom) (closing_tokens l.wrapping) inner).0 e
+demodulator-rewrites symbols (Falsum at) zeroth tokenized e = absurd cc
+demodulator-rewrites symbols (Literals l (b ∷ bs)) zeroth tokenized e = absurd cc
+demodulator-rewrites symbols (Literals l []) zeroth tokenized e =
+    let whole = (tokenized_split (literal_tokens l) [] tokenized).0 in
+    let inner = (tokenized_split (opening_tokens l.wrapping) (atom_tokens l.atom ++ closing_tokens l.wrapping) whole).1 in
+    demodulator-literal symbols l.wrapping l.atom zeroth (tokenized_split (atom_tokens l.atom) (closing_tokens l.wrapping) inner).0 e

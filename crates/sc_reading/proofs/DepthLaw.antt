@@ -1,5 +1,5 @@
 -- A clause's depth is at most what is counted over the tokens of its literals.
-use Rattle.std.proofs.Common.{◌≡◌, ◌∙◌, sym, ap, subst, refl, ℕ, ◌+◌, ◌-◌, ◌≤◌, max, Bool, true, false, List, [], ◌∷◌, ◌++◌, map, append_assoc, Option, Some, None, arith}
+use Rattle.std.proofs.Common.{◌≡◌, ap, ℕ, ◌+◌, ◌-◌, ◌≤◌, max, List, [], ◌∷◌, ◌++◌, map, append_assoc, Option, Some, None, arith}
 use Rattle.std.specs.List.{fold}
 use Rattle.sc_data.specs.declared.Term.{Term}
 use Rattle.sc_data.specs.declared.Term.TheVariants.{Var, App}
@@ -8,11 +8,11 @@ use Rattle.sc_data.proofs.TermLaws.{fold-Var, depth-App}
 use Rattle.sc_term.specs.declared.symbol.Symbol.{Symbol}
 use Rattle.sc_reading.specs.declared.token.Token.{Token}
 use Rattle.sc_reading.specs.declared.token.Token.TheVariants.{Word, Punctuation}
-use Rattle.sc_reading.specs.declared.token.Sign.TheVariants.{Open, Close, Comma}
+use Rattle.sc_reading.specs.declared.token.Sign.TheVariants.{Open, Close}
 use Rattle.sc_reading.specs.declared.written.Occurrence.{Occurrence}
 use Rattle.sc_reading.specs.Measures.{greatest_level}
 use Rattle.sc_reading.specs.Numbering.{function_at, symbol_number}
-use Rattle.sc_reading.proofs.Spelling.{Head, Sides, Empty, Entry, in_brackets, behind_comma, tokens_of, side_tokens, occurrence}
+use Rattle.sc_reading.proofs.Spelling.{Head, Sides, Empty, Entry, in_brackets, behind_comma, tokens_of, occurrence}
 use Rattle.sc_reading.proofs.Terms.{term_from, terms}
 
 fold-max : (a : ℕ) (xs : List ℕ) → fold max a xs ≡ max a (largest xs)

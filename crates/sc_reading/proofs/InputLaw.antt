@@ -1,12 +1,11 @@
 -- A clause that a list may hold is an input, as a clause of terms over the symbols.
-use Rattle.std.proofs.Common.{◌≡◌, ◌∙◌, sym, ap, subst, refl, ℕ, ◌≤◌, Bool, true, false, List, [], ◌∷◌, ◌++◌, map, length, Option, Some, None, arith}
-use Rattle.std.specs.Prelude.{◌&&◌, flat_map, IsTrue}
+use Rattle.std.proofs.Common.{◌≡◌, ◌∙◌, sym, ap, subst, refl, ℕ, ◌≤◌, Bool, true, false, List, [], ◌∷◌, map, length, None, arith}
+use Rattle.std.specs.Prelude.{flat_map}
 use Rattle.std.specs.List.{AllByRecursion, list_all}
 use Rattle.std.proofs.lemmas.List.{append-nil}
 use Rattle.sc_data.specs.declared.Literal.{Literal}
-use Rattle.sc_data.specs.declared.Clause.{Clause}
 use Rattle.sc_data.specs.Term.{joined, term_variables}
-use Rattle.sc_data.specs.Clause.{weight, depth, variables, firsts, counting_from, IsCanonical}
+use Rattle.sc_data.specs.Clause.{weight, variables, firsts, IsCanonical}
 use Rattle.sc_term.specs.declared.symbol.Symbol.{Symbol}
 use Rattle.sc_reading.specs.declared.written.Occurrence.{Occurrence}
 use Rattle.sc_reading.specs.declared.written.WrittenLiteral.{WrittenLiteral}
@@ -23,11 +22,7 @@ use Rattle.sc_reading.proofs.SymbolNumbers.{IsListed, AreListed}
 use Rattle.sc_reading.proofs.OverLaw.{IsKnown, literal-over}
 use Rattle.sc_reading.proofs.VariableNumbers.{number, numbers_of, IsPlaced, number_in-variable, clause-variables, variables-placed}
 use Rattle.sc_reading.proofs.CanonicalLaw.{counts_itself, firsts-numbers}
-
-both : (a b : Bool) → a ≡ true → b ≡ true → (a && b) ≡ true
-both true true e k = refl
-both true false e k = k
-both false b e k = e
+use Rattle.sc_reading.proofs.Booleans.{both_hold}
 
 -- ---- over the symbols
 
@@ -45,7 +40,7 @@ literals-over : (order : List Occurrence) (symbols : List Symbol) (ls : List Lit
     → list_all (literal_is_over symbols) (map (literal_of (number_in order) symbols) (map literal_written ls)) ≡ true
 literals-over order symbols [] listed placed = refl
 literals-over order symbols (l ∷ ls) listed placed =
-    both _ _ (literal-over (number_in order) symbols l listed.0.predicate (known order symbols (literal_written l).arguments listed.0.arguments placed.0))
+    both_hold _ _ (literal-over (number_in order) symbols l listed.0.predicate (known order symbols (literal_written l).arguments listed.0.arguments placed.0))
     (literals-over order symbols ls listed.1 placed.1)
 
 clause-over : (symbols : List Symbol) (c : ClauseTree) → AllByRecursion (AreListed symbols) (clause_written c) → IsOver symbols (clause_of symbols (clause_written c))

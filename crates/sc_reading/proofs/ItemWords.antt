@@ -1,20 +1,19 @@
 -- What the tokens were where the words and numbers of an item are read.
-use Rattle.std.proofs.Common.{◌≡◌, ◌∙◌, sym, ap, subst, refl, ℕ, Bool, true, false, List, [], ◌∷◌, ◌++◌, Option, Some, None, Ok, Err, ◌⊎◌, inl, inr}
-use Rattle.std.specs.Prelude.{codes, ◌||◌, ℤ, neg_ℤ, find, option_map, unwrap_or}
-use Rattle.std.specs.List.{AllByRecursion, list_any, list_all}
+use Rattle.std.proofs.Common.{◌≡◌, ◌∙◌, sym, ap, subst, refl, ℕ, Bool, true, false, List, [], ◌∷◌, ◌++◌, Some, Ok, ◌⊎◌, inl, inr}
+use Rattle.std.specs.Prelude.{codes, ◌||◌, ℤ, neg_ℤ}
+use Rattle.std.specs.List.{list_any, list_all}
 use Rattle.std.specs.Cmp.Lexicographic.{bytes_decides}
-use Rattle.sc_reading.specs.declared.settings.Home.{Home}
 use Rattle.sc_reading.specs.declared.token.Token.{Token}
 use Rattle.sc_reading.specs.declared.token.Token.TheVariants.{Word, Punctuation, Refused}
 use Rattle.sc_reading.specs.declared.token.Sign.TheVariants.{Open, Close, Comma, Stop, Bar, Minus, Equal, Unequal, Colon}
-use Rattle.sc_reading.specs.Token.{is_sign, is_word, same_text}
+use Rattle.sc_reading.specs.Token.{same_text}
 use Rattle.sc_reading.specs.Tokens.{is_digit}
 use Rattle.sc_reading.specs.Reader.{Read, Name, ◌>>=◌, unexpected, the_sign, a_word, the_word, is_listed, refused_name, a_listed_name}
-use Rattle.sc_reading.specs.Settings.{homes, list_words}
+use Rattle.sc_reading.specs.Settings.{list_words}
 use Rattle.sc_reading.specs.Position.{home_named}
 use Rattle.sc_reading.specs.Problem.{home_of}
 use Rattle.sc_reading.specs.ProblemGrammar.{value_of, a_numeral, number, the_close}
-use Rattle.sc_reading.proofs.Taken.{Gives, Sign-taken, both, same, sign_taken, word_taken}
+use Rattle.sc_reading.proofs.Taken.{Gives, both, same, sign_taken, word_taken}
 use Rattle.sc_reading.proofs.Standing.{HasNoStop}
 
 -- ---- words

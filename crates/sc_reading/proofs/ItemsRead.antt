@@ -1,29 +1,27 @@
 -- The items of a problem, where they are read and no limit is passed.
-use Rattle.std.proofs.Common.{◌≡◌, ◌∙◌, sym, ap, subst, refl, ℕ, zero, suc, Bool, true, false, List, [], ◌∷◌, ◌++◌, map, length, append_assoc, Option, Some, None, Ok, Err}
-use Rattle.std.specs.Prelude.{codes, not, ◌&&◌, nat_lt, ℤ, int_le, flat_map, option_and_then, if◌then◌else◌}
+use Rattle.std.proofs.Common.{◌≡◌, ◌∙◌, sym, ap, subst, refl, ℕ, Bool, true, false, List, [], ◌∷◌, ◌++◌, map, Some, None}
+use Rattle.std.specs.Prelude.{codes, ◌&&◌, int_le, if◌then◌else◌}
 use Rattle.std.specs.List.{AllByRecursion}
 use Rattle.std.proofs.lemmas.List.{append-nil}
 use Rattle.sc_reading.specs.declared.settings.Home.{Home}
 use Rattle.sc_reading.specs.declared.token.Token.{Token}
 use Rattle.sc_reading.specs.declared.token.Token.TheVariants.{Word, Punctuation}
-use Rattle.sc_reading.specs.declared.token.Sign.TheVariants.{Open, Close, Comma, Stop}
-use Rattle.sc_reading.specs.Token.{is_word, same_text}
-use Rattle.sc_reading.specs.Reader.{Read, Name, ◌>>=◌, unexpected, the_sign, a_listed_name, the_word, repeated}
+use Rattle.sc_reading.specs.declared.token.Sign.TheVariants.{Open, Close, Stop}
+use Rattle.sc_reading.specs.Token.{same_text}
+use Rattle.sc_reading.specs.Reader.{the_sign, a_listed_name}
 use Rattle.sc_reading.specs.Syntax.{WrittenClause}
-use Rattle.sc_reading.specs.Settings.{Range, flag_words, unsupported_flags, parameter_words, unsupported_parameters, list_words, unsupported_lists}
-use Rattle.sc_reading.specs.ProblemGrammar.{Item, Setting, Assignment, Listing, number, the_close, setting, assignment, listing, ended_clause, next_is_word}
-use Rattle.sc_reading.specs.Position.{Position, home_named, opened}
-use Rattle.sc_reading.specs.Problem.{home_of, listed}
-use Rattle.sc_reading.specs.ClauseLimits.{when, first_at}
-use Rattle.sc_reading.specs.ProblemLimits.{problem_bounds, problem_fault_at, range_of, is_outside, last_digits, number_told}
+use Rattle.sc_reading.specs.Settings.{Range, flag_words, unsupported_flags}
+use Rattle.sc_reading.specs.ProblemGrammar.{Item, Setting, Assignment, Listing, the_close, setting}
+use Rattle.sc_reading.specs.Position.{home_named, opened}
+use Rattle.sc_reading.specs.Problem.{listed}
+use Rattle.sc_reading.specs.ProblemLimits.{range_of}
 use Rattle.sc_reading.proofs.ClauseSpelling.{ClauseTree, clause_tokens, clause_written}
 use Rattle.sc_reading.proofs.Taken.{Gives, both, same, sign_taken}
-use Rattle.sc_reading.proofs.Unpassed.{IsClear, is_clear, unpassed_split, unpassed_at}
-use Rattle.sc_reading.proofs.Standing.{HasNoStop, Stands, standing, stands_outside, stands_closed}
-use Rattle.sc_reading.proofs.FairTokens.{AreFair, fair_split}
+use Rattle.sc_reading.proofs.Standing.{HasNoStop, Stands, stands_outside}
+use Rattle.sc_reading.proofs.Tokenized.{AreTokenized}
 use Rattle.sc_reading.proofs.ClauseWithin.{IsUnpassed}
-use Rattle.sc_reading.proofs.ListedRead.{IsAdmitted, ClausesRead, clauses_read}
-use Rattle.sc_reading.proofs.ItemWords.{listed_taken, the_word_taken, close_taken, number_taken, home_known}
+use Rattle.sc_reading.proofs.ListedRead.{IsAdmitted}
+use Rattle.sc_reading.proofs.ItemWords.{listed_taken, close_taken}
 
 -- a number is in its parameter's range
 abbrev pub NumberFits : Item → Type 0
@@ -53,7 +51,7 @@ pub record ItemHolds (earlier ts : List Token) (before : List (Home × List Toke
 pub record ItemRead (ts : List Token) (i : Item) (left : List Token) : Type 0 where
   pub taken : List Token
   pub tokens : ts ≡ taken ++ left
-  pub holds : (earlier : List Token) (before : List (Home × List Token)) → Stands earlier None before → IsUnpassed earlier taken → AreFair taken → ItemHolds earlier taken before i
+  pub holds : (earlier : List Token) (before : List (Home × List Token)) → Stands earlier None before → IsUnpassed earlier taken → AreTokenized taken → ItemHolds earlier taken before i
 
 -- ---- settings
 
@@ -64,7 +62,7 @@ one_sentence s stop i ts left l n o e fits =
     record {
       taken = s ++ Punctuation stop Stop ∷ [];
       tokens = e;
-      holds = λ earlier before st u fair.
+      holds = λ earlier before st u tokenized.
           record {
             trees = [];
             written = l;

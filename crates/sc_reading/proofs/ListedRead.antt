@@ -1,5 +1,5 @@
 -- The clauses of a list, where they are read and no limit is passed.
-use Rattle.std.proofs.Common.{◌≡◌, ◌∙◌, sym, ap, subst, refl, ℕ, zero, suc, ◌≤◌, Bool, true, false, List, [], ◌∷◌, ◌++◌, map, length, append_assoc, Option, Some, None, Ok, arith}
+use Rattle.std.proofs.Common.{◌≡◌, ◌∙◌, sym, ap, subst, refl, ℕ, zero, suc, ◌≤◌, Bool, true, false, List, [], ◌∷◌, ◌++◌, map, length, append_assoc, Some, Ok, arith}
 use Rattle.std.specs.Prelude.{codes, flat_map}
 use Rattle.std.specs.List.{AllByRecursion}
 use Rattle.std.proofs.lemmas.List.{append-nil}
@@ -8,27 +8,27 @@ use Rattle.sc_reading.specs.declared.token.Token.{Token}
 use Rattle.sc_reading.specs.declared.token.Token.TheVariants.{Word, Punctuation}
 use Rattle.sc_reading.specs.declared.token.Sign.TheVariants.{Stop}
 use Rattle.sc_reading.specs.Token.{is_sign, is_word}
-use Rattle.sc_reading.specs.Reader.{Read, ◌>>=◌, unexpected, next_is, the_sign, repeated}
+use Rattle.sc_reading.specs.Reader.{◌>>=◌, unexpected, next_is, the_sign, repeated}
 use Rattle.sc_data.proofs.SubstitutionLaws.{all_split}
 use Rattle.sc_reading.specs.Syntax.{WrittenClause}
 use Rattle.sc_reading.specs.ClauseGrammar.{clause}
 use Rattle.sc_reading.specs.ProblemGrammar.{ended_clause, next_is_word}
 use Rattle.sc_reading.specs.ProblemLimits.{problem_bounds, problem_fault_at}
-use Rattle.sc_reading.proofs.ClauseSpelling.{LiteralTree, ClauseTree, Falsum, Literals, literal_tokens, behind_bar, clause_tokens, clause_written, IsSpeltClause}
-use Rattle.sc_reading.proofs.Taken.{Gives, Sign-taken, both, same, sign_taken}
-use Rattle.sc_reading.proofs.ClausesRead.{ClauseRead, clause_read}
+use Rattle.sc_reading.proofs.ClauseSpelling.{ClauseTree, Falsum, Literals, literal_tokens, behind_bar, clause_tokens, clause_written, IsSpeltClause}
+use Rattle.sc_reading.proofs.Taken.{Gives, both, same, sign_taken}
+use Rattle.sc_reading.proofs.ClausesRead.{clause_read}
 use Rattle.sc_reading.proofs.ClausesBack.{literal_has_tokens}
 use Rattle.sc_reading.proofs.Unpassed.{unpassed_split}
 use Rattle.sc_reading.proofs.Standing.{HasNoStop, Stands}
 use Rattle.sc_reading.proofs.NoStop.{clause_no_stop}
-use Rattle.sc_reading.proofs.FairTokens.{AreFair, fair_split}
+use Rattle.sc_reading.proofs.Tokenized.{AreTokenized, tokenized_split}
 use Rattle.sc_reading.proofs.ClauseWithin.{IsUnpassed, Within, within_clause, clause_stands}
 
 -- a clause that a list may hold
 pub record IsAdmitted (c : ClauseTree) : Type 0 where
   pub spelt : IsSpeltClause c
   pub within : (front more : List Token) → clause_tokens c ≡ front ++ more → Within front
-  pub fair : AreFair (clause_tokens c)
+  pub tokenized : AreTokenized (clause_tokens c)
 
 -- ---- one clause
 
@@ -72,8 +72,8 @@ has_tokens (Literals l bs) = first_token (literal_tokens l) (flat_map behind_bar
 
 one_holds : (earlier : List Token) (h : Home) (before : List (Home × List Token)) (c : ClauseTree) (stop : ℕ) (left : List Token)
     → IsSpeltClause c → next_is (is_word end_word) ((clause_tokens c ++ Punctuation stop Stop ∷ []) ++ left) ≡ false → Stands earlier (Some h) before
-    → IsUnpassed earlier (clause_tokens c ++ Punctuation stop Stop ∷ []) → AreFair (clause_tokens c ++ Punctuation stop Stop ∷ []) → OneHolds earlier h before c stop
-one_holds earlier h before c stop left spelt e st u fair =
+    → IsUnpassed earlier (clause_tokens c ++ Punctuation stop Stop ∷ []) → AreTokenized (clause_tokens c ++ Punctuation stop Stop ∷ []) → OneHolds earlier h before c stop
+one_holds earlier h before c stop left spelt e st u tokenized =
     let end = Punctuation stop Stop ∷ [] in
     let s = has_tokens c in
     let stands = clause_stands earlier h before s.0 s.1 stop st (subst HasNoStop s.2 (clause_no_stop c))
@@ -84,7 +84,7 @@ one_holds earlier h before c stop left spelt e st u fair =
         within = λ front more q.
             within_clause earlier h before front (more ++ end) st (all_split (λ t. is_sign Stop t ≡ false) front more (subst HasNoStop q (clause_no_stop c))).0
             (subst (IsUnpassed earlier) (ap (λ ts. ts ++ Punctuation stop Stop ∷ []) q ∙ append_assoc front more (Punctuation stop Stop ∷ [])) u);
-        fair = (fair_split (clause_tokens c) (Punctuation stop Stop ∷ []) fair).0;
+        tokenized = (tokenized_split (clause_tokens c) (Punctuation stop Stop ∷ []) tokenized).0;
       };
       stands = subst (λ ts. Stands (earlier ++ (ts ++ Punctuation stop Stop ∷ [])) (Some h) (before ++ (h, ts) ∷ [])) (sym s.2) stands;
     }
@@ -101,14 +101,14 @@ pub record ClausesHold (earlier ts : List Token) (h : Home) (before : List (Home
 pub record ClausesRead (ts : List Token) (cs : List WrittenClause) (left : List Token) : Type 0 where
   pub taken : List Token
   pub tokens : ts ≡ taken ++ left
-  pub holds : (earlier : List Token) (h : Home) (before : List (Home × List Token)) → Stands earlier (Some h) before → IsUnpassed earlier taken → AreFair taken → ClausesHold earlier taken h before cs
+  pub holds : (earlier : List Token) (h : Home) (before : List (Home × List Token)) → Stands earlier (Some h) before → IsUnpassed earlier taken → AreTokenized taken → ClausesHold earlier taken h before cs
 
 no_clauses : (ts left : List Token) → ts ≡ left → ClausesRead ts [] left
 no_clauses ts left e =
     record {
       taken = [];
       tokens = e;
-      holds = λ earlier h before st u fair.
+      holds = λ earlier h before st u tokenized.
           record { trees = []; written = refl; admitted = tt; stands = subst (λ us. Stands us (Some h) (before ++ [])) (sym (append-nil earlier)) (subst (Stands earlier (Some h)) (sym (append-nil before)) st) };
     }
 
@@ -118,12 +118,12 @@ one_more_clause ts us left c cs e r m =
     record {
       taken = s ++ m.taken;
       tokens = r.tokens ∙ ap (λ us. s ++ us) m.tokens ∙ sym (append_assoc s m.taken left);
-      holds = λ earlier h before st u fair.
+      holds = λ earlier h before st u tokenized.
           let parts = unpassed_split (problem_fault_at problem_bounds) earlier s m.taken u in
-          let fairs = fair_split s m.taken fair in
+          let halves = tokenized_split s m.taken tokenized in
           let new : List (Home × List Token) = (h, clause_tokens r.tree) ∷ [] in
-          let o = one_holds earlier h before r.tree r.stop us r.spelt (subst (λ ts. next_is (is_word end_word) ts ≡ false) r.tokens e) st parts.0 fairs.0 in
-          let rest = m.holds (earlier ++ s) h (before ++ new) o.stands parts.1 fairs.1 in
+          let o = one_holds earlier h before r.tree r.stop us r.spelt (subst (λ ts. next_is (is_word end_word) ts ≡ false) r.tokens e) st parts.0 halves.0 in
+          let rest = m.holds (earlier ++ s) h (before ++ new) o.stands parts.1 halves.1 in
           record {
             trees = r.tree ∷ rest.trees;
             written = (λ i. r.written i ∷ rest.written i);

@@ -1,5 +1,5 @@
 -- Where a list is read and no limit is passed, each of its clauses keeps the limits.
-use Rattle.std.proofs.Common.{◌≡◌, ◌∙◌, sym, ap, subst, refl, ℕ, Bool, true, false, List, [], ◌∷◌, ◌++◌, map, length, append_assoc, Option, Some, None}
+use Rattle.std.proofs.Common.{◌≡◌, ◌∙◌, sym, ap, subst, refl, ℕ, List, [], ◌∷◌, ◌++◌, map, length, append_assoc, Some, None}
 use Rattle.std.specs.Prelude.{codes, if◌then◌else◌}
 use Rattle.std.specs.List.{AllByRecursion}
 use Rattle.sc_reading.specs.declared.settings.Home.{Home}
@@ -12,17 +12,16 @@ use Rattle.sc_reading.specs.Syntax.{WrittenClause}
 use Rattle.sc_reading.specs.Settings.{list_words, unsupported_lists}
 use Rattle.sc_reading.specs.ProblemGrammar.{Item, Listing, the_close, listing, ended_clause, next_is_word}
 use Rattle.sc_reading.specs.Position.{home_named, opened}
-use Rattle.sc_reading.specs.Problem.{home_of, listed}
+use Rattle.sc_reading.specs.Problem.{home_of}
 use Rattle.sc_reading.specs.ProblemLimits.{problem_bounds, problem_fault_at}
 use Rattle.sc_reading.proofs.ClauseSpelling.{ClauseTree, clause_tokens, clause_written}
 use Rattle.sc_reading.proofs.Taken.{Gives, both, same, sign_taken}
 use Rattle.sc_reading.proofs.Unpassed.{unpassed_split}
 use Rattle.sc_reading.proofs.Standing.{HasNoStop, Stands, stands_outside, stands_closed}
-use Rattle.sc_reading.proofs.FairTokens.{AreFair, fair_split}
-use Rattle.sc_reading.proofs.ClauseWithin.{IsUnpassed}
+use Rattle.sc_reading.proofs.Tokenized.{tokenized_split}
 use Rattle.sc_reading.proofs.ListedRead.{IsAdmitted, ClausesRead, clauses_read}
 use Rattle.sc_reading.proofs.ItemWords.{listed_taken, the_word_taken, close_taken, home_known}
-use Rattle.sc_reading.proofs.ItemsRead.{ItemHolds, ItemRead, Homed, as_tokens, as_written}
+use Rattle.sc_reading.proofs.ItemsRead.{ItemRead, Homed, as_tokens, as_written}
 
 at_home : Home → ClauseTree → Homed
 at_home h c = (h, c)
@@ -58,11 +57,11 @@ listing_from s stop end stop' n cs ts us left o no_stop e r =
     record {
       taken = first ++ (r.taken ++ last);
       tokens = e ∙ ap (λ us. first ++ us) (r.tokens ∙ sym (append_assoc r.taken last left)) ∙ sym (append_assoc first (r.taken ++ last) left);
-      holds = λ earlier before st u fair.
+      holds = λ earlier before st u tokenized.
           let u1 = unpassed_split (problem_fault_at problem_bounds) earlier first (r.taken ++ last) u in
           let u2 = unpassed_split (problem_fault_at problem_bounds) (earlier ++ first) r.taken last u1.1 in
-          let f1 = fair_split first (r.taken ++ last) fair in
-          let f2 = fair_split r.taken last f1.1 in
+          let f1 = tokenized_split first (r.taken ++ last) tokenized in
+          let f2 = tokenized_split r.taken last f1.1 in
           let c = r.holds (earlier ++ first) h before (stands_outside earlier s stop (Some (home_of n.text)) before st no_stop o) u2.0 f2.0 in
           let after = stands_closed ((earlier ++ first) ++ r.taken) (Word end (codes "end_of_list") ∷ []) stop' h (before ++ map (λ c. (h, clause_tokens c)) c.trees) c.stands (refl, tt) refl in
           record {

@@ -1,16 +1,16 @@
 -- Where a literal is read, it is that of a tree, and the tokens are those that spell it.
-use Rattle.std.proofs.Common.{◌≡◌, ◌∙◌, sym, ap, subst, refl, ℕ, Bool, true, false, List, [], ◌∷◌, ◌++◌, length, append_assoc, Ok}
+use Rattle.std.proofs.Common.{◌≡◌, ◌∙◌, sym, ap, subst, ℕ, Bool, true, false, List, [], ◌∷◌, ◌++◌, append_assoc, Ok}
 use Rattle.std.proofs.lemmas.List.{append-nil}
 use Rattle.sc_reading.specs.declared.token.Token.{Token}
 use Rattle.sc_reading.specs.declared.token.Token.TheVariants.{Word, Punctuation, Refused}
 use Rattle.sc_reading.specs.declared.token.Sign.TheVariants.{Open, Close, Comma, Stop, Bar, Minus, Equal, Unequal, Colon}
 use Rattle.sc_reading.specs.Token.{is_sign}
-use Rattle.sc_reading.specs.Reader.{Read, ◌>>=◌, next_is, the_sign}
+use Rattle.sc_reading.specs.Reader.{◌>>=◌, next_is, the_sign}
 use Rattle.sc_reading.specs.declared.written.WrittenLiteral.{WrittenLiteral}
 use Rattle.sc_reading.specs.Syntax.{Side}
 use Rattle.sc_reading.specs.ClauseGrammar.{bracketed, side, equation_of, right_of, equation, atom_of, is_equality, plain_literal, bracketed_or, negative_atom, negated, literal}
-use Rattle.sc_reading.proofs.Spelling.{Head, Sides, side_tokens, side_of, occurrence, occurrences, IsName, AreNames}
-use Rattle.sc_reading.proofs.ClauseSpelling.{Equated, Atom, Plain, Equation, Wrapping, Bare, Negative, Brackets, NegativeBrackets, LiteralTree, equal_sign, atom_tokens, opening_tokens, closing_tokens, literal_tokens, atom_written, wrapped, literal_written, HasNames, IsSpelt}
+use Rattle.sc_reading.proofs.Spelling.{Head, Sides, side_tokens, side_of, IsName, AreNames}
+use Rattle.sc_reading.proofs.ClauseSpelling.{Equated, Atom, Plain, Equation, Bare, Negative, Brackets, NegativeBrackets, LiteralTree, equal_sign, atom_tokens, literal_tokens, atom_written, literal_written, HasNames, IsSpelt}
 use Rattle.sc_reading.proofs.Taken.{Gives, both, same, sign_taken}
 use Rattle.sc_reading.proofs.SidesRead.{SideRead, side_read, brackets_read}
 

@@ -1,8 +1,9 @@
 -- What stands in the list of several things once, where each stands first.
-use Rattle.std.proofs.Common.{◌≡◌, ◌∙◌, sym, ap, subst, refl, Bool, true, false, List, [], ◌∷◌, ◌++◌, map}
+use Rattle.std.proofs.Common.{◌≡◌, ◌∙◌, ap, refl, Bool, true, false, List, [], ◌∷◌}
 use Rattle.std.specs.Prelude.{◌||◌, if◌then◌else◌}
 use Rattle.std.specs.List.{AllByRecursion, IsDistinct, list_any}
 use Rattle.sc_reading.specs.Numbering.{once}
+use Rattle.sc_reading.proofs.Booleans.{neither}
 
 module _ {X : Type 0} (same : X → X → Bool) where
   -- the answer of `once` for one more element
@@ -60,10 +61,6 @@ module _ {X : Type 0} (same : X → X → Bool) where
   module _ (turned : (x y : X) → same x y ≡ same y x) where
     abbrev IsNew : List X → X → Type 0
     IsNew before x = list_any (same x) before ≡ false
-
-    neither : (a b : Bool) → (a || b) ≡ false → (a ≡ false) × (b ≡ false)
-    neither true b e = absurd cc
-    neither false b e = (refl, e)
 
     apart : (y : X) (before xs : List X) → AllByRecursion (IsNew (y ∷ before)) xs → AllByRecursion (λ x. same y x ≡ false) xs × AllByRecursion (IsNew before) xs
     apart y before [] h = (tt, tt)

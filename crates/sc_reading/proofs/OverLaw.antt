@@ -1,35 +1,24 @@
 -- The terms of written sides are over the symbols.
-use Rattle.std.proofs.Common.{◌≡◌, ◌∙◌, sym, ap, subst, refl, ℕ, Bool, true, false, List, [], ◌∷◌, ◌++◌, map, length, Option, Some, None}
-use Rattle.std.specs.Prelude.{◌&&◌, IsTrue}
+use Rattle.std.proofs.Common.{◌≡◌, ◌∙◌, sym, ap, subst, refl, ℕ, Bool, true, List, map, length, Option, Some, None}
+use Rattle.std.specs.Prelude.{◌&&◌}
 use Rattle.std.specs.List.{AllByRecursion, list_all}
 use Rattle.std.proofs.lemmas.List.Folds.{list_all-map}
 use Rattle.std.proofs.lemmas.List.{length-map}
 use Rattle.sc_data.proofs.SubstitutionLaws.{all_split}
 use Rattle.sc_data.specs.declared.Term.{Term}
 use Rattle.sc_data.specs.declared.Term.TheVariants.{Var, App}
-use Rattle.sc_data.specs.declared.Literal.{Literal}
 use Rattle.sc_data.proofs.TermLaws.{fold-Var, fold-App}
 use Rattle.sc_term.specs.declared.symbol.Role.TheVariants.{Function, Predicate}
 use Rattle.sc_term.specs.declared.symbol.Symbol.{Symbol}
 use Rattle.sc_reading.specs.declared.written.Occurrence.{Occurrence}
-use Rattle.sc_reading.specs.declared.written.WrittenLiteral.{WrittenLiteral}
 use Rattle.sc_reading.specs.Numbering.{function_at, predicate_at, symbol_number, literal_of}
 use Rattle.sc_reading.specs.WellFormed.{is_used_as, over_step, term_is_over, literal_is_over}
-use Rattle.sc_reading.proofs.Spelling.{Head, Sides, Empty, Entry, count, occurrence, occurrences, side_of}
-use Rattle.sc_reading.proofs.ClauseSpelling.{Equated, Atom, Plain, Equation, LiteralTree, atom_written, literal_written}
+use Rattle.sc_reading.proofs.Spelling.{Head, Sides, Empty, Entry, occurrence, occurrences}
+use Rattle.sc_reading.proofs.ClauseSpelling.{Atom, Plain, Equation, LiteralTree, atom_written, literal_written}
 use Rattle.sc_reading.proofs.Terms.{term_from, terms, terms-length, sides_under}
 use Rattle.sc_reading.proofs.ClauseParts.{literal-args, literal-arguments, wrapped-predicate}
 use Rattle.sc_reading.proofs.SymbolNumbers.{IsListed, used_as}
-
-both : (a b : Bool) → a ≡ true → b ≡ true → (a && b) ≡ true
-both true true e k = refl
-both true false e k = k
-both false b e k = e
-
--- the number of arguments that an atom has
-abbrev arity_of : Atom → ℕ
-arity_of (Plain h args) = count args
-arity_of (Equation e) = 2
+use Rattle.sc_reading.proofs.Booleans.{both_hold}
 
 module _ (variable : Occurrence → Option ℕ) (symbols : List Symbol) where
   -- a name that stands for no variable is a symbol
@@ -47,7 +36,7 @@ module _ (variable : Occurrence → Option ℕ) (symbols : List Symbol) where
           let f = symbol_number symbols (function_at (occurrence h args)).symbol in
           let ts = terms variable symbols args in
           fold-App Bool (over_step symbols) f ts
-          ∙ both (is_used_as symbols Function f (length (map (term_is_over symbols) ts))) (list_all (λ b. b) (map (term_is_over symbols) ts))
+          ∙ both_hold (is_used_as symbols Function f (length (map (term_is_over symbols) ts))) (list_all (λ b. b) (map (term_is_over symbols) ts))
           (used_as symbols (function_at (occurrence h args)).symbol (length (map (term_is_over symbols) ts)) (known e) (sym (terms-length variable symbols args) ∙ sym (length-map ts (term_is_over symbols))))
           (list_all-map (λ b. b) (term_is_over symbols) ts ∙ over)
 
@@ -55,7 +44,7 @@ module _ (variable : Occurrence → Option ℕ) (symbols : List Symbol) where
   terms-over Empty known = refl
   terms-over (Entry h args comma others) known =
       let s = all_split IsKnown (occurrences args) (occurrences others) known.1 in
-      both _ _ (term-over h args known.0 (terms-over args s.0)) (terms-over others s.1)
+      both_hold _ _ (term-over h args known.0 (terms-over args s.0)) (terms-over others s.1)
 
   terms-count : (a : Atom) → length (terms variable symbols (sides_under a)) ≡ (atom_written a).predicate.arity
   terms-count (Plain h args) = terms-length variable symbols args
@@ -69,6 +58,6 @@ module _ (variable : Occurrence → Option ℕ) (symbols : List Symbol) where
       let e = literal-args variable symbols l in
       let n = terms-count l.atom ∙ ap (λ (o : Occurrence). o.arity) (sym (wrapped-predicate l.wrapping (atom_written l.atom))) in
       ap (λ (ts : List Term). is_used_as symbols Predicate (symbol_number symbols p) (length ts) && list_all (term_is_over symbols) ts) e
-      ∙ both (is_used_as symbols Predicate (symbol_number symbols p) (length ts)) (list_all (term_is_over symbols) ts)
+      ∙ both_hold (is_used_as symbols Predicate (symbol_number symbols p) (length ts)) (list_all (term_is_over symbols) ts)
       (used_as symbols p (length ts) predicate (sym n))
       (terms-over (sides_under l.atom) (subst (AllByRecursion IsKnown) (literal-arguments l) known))

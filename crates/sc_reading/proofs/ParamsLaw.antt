@@ -1,25 +1,22 @@
 -- Where each assigned number is in its range, so are the parameters.
-use Rattle.std.proofs.Common.{◌≡◌, ◌∙◌, sym, ap, subst, refl, ℕ, ◌≤◌, Bool, true, false, List, [], ◌∷◌, Option, Some, None, arith}
-use Rattle.std.specs.Prelude.{codes, ◌&&◌, ℤ, pos, negsuc, int_le, nat_le, nat_abs, if◌then◌else◌}
+use Rattle.std.proofs.Common.{◌≡◌, ◌∙◌, sym, ap, refl, ℕ, ◌≤◌, Bool, true, false, List, [], ◌∷◌, Some, arith}
+use Rattle.std.specs.Prelude.{codes, ◌&&◌, ℤ, pos, negsuc, int_le, nat_abs, if◌then◌else◌}
 use Rattle.std.specs.List.{AllByRecursion}
 use Rattle.std.specs.Cmp.Lexicographic.{bytes_decides}
 use Rattle.std.proofs.lemmas.Bool.{leb-true}
 use Rattle.sc_reading.specs.declared.token.Token.TheVariants.{Word}
 use Rattle.sc_reading.specs.Token.{same_text}
 use Rattle.sc_reading.specs.Reader.{Name}
-use Rattle.sc_reading.specs.Settings.{Range, from_to}
+use Rattle.sc_reading.specs.Settings.{from_to}
 use Rattle.sc_reading.specs.ProblemGrammar.{Item, Setting, Assignment, Listing}
-use Rattle.sc_reading.specs.Problem.{last_value, value_of, params_of}
+use Rattle.sc_reading.specs.Problem.{last_value, params_of}
 use Rattle.sc_reading.specs.ProblemLimits.{range_of}
 use Rattle.sc_reading.specs.WellFormed.{IsBetween, AreParams}
 use Rattle.sc_reading.proofs.ItemsRead.{NumberFits}
-
-both_true : (a b : Bool) → (a && b) ≡ true → (a ≡ true) × (b ≡ true)
-both_true true b e = (refl, e)
-both_true false b e = absurd cc
+use Rattle.sc_reading.proofs.Booleans.{parts_hold}
 
 between : (low high : ℕ) (v : ℤ) → (int_le (pos low) v && int_le v (pos high)) ≡ true → IsBetween low high (nat_abs v)
-between low high (pos k) e = let s = both_true _ _ e in (leb-true low k s.0, leb-true k high s.1)
+between low high (pos k) e = let s = parts_hold _ _ e in (leb-true low k s.0, leb-true k high s.1)
 between low high (negsuc k) e = absurd cc
 
 -- the range of a parameter, wherever its name stands

@@ -1,29 +1,29 @@
 -- What a problem's items hold, where they are read and no limit is passed: the clauses as trees, with what each keeps.
-use Rattle.std.proofs.Common.{◌≡◌, ◌∙◌, sym, ap, subst, refl, ℕ, zero, suc, ◌+◌, ◌-◌, ◌≤◌, Bool, true, false, List, [], ◌∷◌, ◌++◌, map, take, length, length-append, append_assoc, Option, Some, None, Ok, ◌⊎◌, inl, inr, arith}
+use Rattle.std.proofs.Common.{◌≡◌, ◌∙◌, sym, ap, subst, refl, ℕ, zero, suc, ◌-◌, Bool, true, false, List, [], ◌∷◌, ◌++◌, map, take, length, length-append, append_assoc, None, Ok, arith}
 use Rattle.std.specs.Prelude.{codes, ◌||◌}
 use Rattle.std.specs.List.{AllByRecursion, list_any}
 use Rattle.std.specs.Cmp.Lexicographic.{bytes_decides}
-use Rattle.std.proofs.lemmas.List.{append-nil}
+use Rattle.std.proofs.lemmas.List.{append-nil, map-append}
 use Rattle.std.proofs.Math.Seq.{take-append_seam}
 use Rattle.sc_data.proofs.SubstitutionLaws.{all_join}
 use Rattle.sc_reading.specs.declared.settings.Home.{Home}
 use Rattle.sc_reading.specs.declared.token.Token.{Token}
 use Rattle.sc_reading.specs.declared.token.Token.TheVariants.{Word}
 use Rattle.sc_reading.specs.Token.{same_text}
-use Rattle.sc_reading.specs.Reader.{Read, Name, ◌>>=◌, unexpected, a_listed_name, repeated}
+use Rattle.sc_reading.specs.Reader.{◌>>=◌, unexpected, a_listed_name, repeated}
 use Rattle.sc_reading.specs.Settings.{item_words, unsupported_items}
 use Rattle.sc_reading.specs.ProblemGrammar.{Item, setting, assignment, listing, item_named, item, at_end, problem, at_proof_or_end, items}
-use Rattle.sc_reading.specs.Problem.{listed, listed_clauses}
+use Rattle.sc_reading.specs.Problem.{listed_clauses}
 use Rattle.sc_reading.specs.Faults.{first_passed, before}
 use Rattle.sc_reading.specs.ProblemLimits.{problem_bounds, problem_fault_at}
 use Rattle.sc_reading.proofs.Taken.{Gives, both, same}
 use Rattle.sc_reading.proofs.Unpassed.{unpassed_split}
 use Rattle.sc_reading.proofs.Standing.{AreWhole, Stands}
-use Rattle.sc_reading.proofs.FairTokens.{AreFair, fair_split}
+use Rattle.sc_reading.proofs.Tokenized.{AreTokenized, tokenized_split}
 use Rattle.sc_reading.proofs.ClauseWithin.{IsUnpassed}
 use Rattle.sc_reading.proofs.ListedRead.{IsAdmitted}
 use Rattle.sc_reading.proofs.ItemWords.{listed_taken}
-use Rattle.sc_reading.proofs.ItemsRead.{NumberFits, Homed, as_tokens, as_written, ItemHolds, ItemRead, setting_read}
+use Rattle.sc_reading.proofs.ItemsRead.{NumberFits, Homed, as_tokens, as_written, ItemRead, setting_read}
 use Rattle.sc_reading.proofs.AssignmentRead.{assignment_read}
 use Rattle.sc_reading.proofs.ListingRead.{listing_read}
 
@@ -70,14 +70,14 @@ record ItemsHold (earlier ts : List Token) (before : List (Home × List Token)) 
 record ItemsRead (ts : List Token) (is : List Item) (left : List Token) : Type 0 where
   taken : List Token
   tokens : ts ≡ taken ++ left
-  holds : (earlier : List Token) (before : List (Home × List Token)) → Stands earlier None before → IsUnpassed earlier taken → AreFair taken → ItemsHold earlier taken before is
+  holds : (earlier : List Token) (before : List (Home × List Token)) → Stands earlier None before → IsUnpassed earlier taken → AreTokenized taken → ItemsHold earlier taken before is
 
 no_items : (ts left : List Token) → ts ≡ left → ItemsRead ts [] left
 no_items ts left e =
     record {
       taken = [];
       tokens = e;
-      holds = λ earlier before st u fair.
+      holds = λ earlier before st u tokenized.
           record {
             trees = [];
             written = refl;
@@ -87,28 +87,24 @@ no_items ts left e =
           };
     }
 
-map_append : {A B : Type 0} (f : A → B) (xs ys : List A) → map f (xs ++ ys) ≡ map f xs ++ map f ys
-map_append f [] ys = refl
-map_append f (x ∷ xs) ys = ap (λ l. f x ∷ l) (map_append f xs ys)
-
 one_more_item : (ts us left : List Token) (i : Item) (is : List Item) → ItemRead ts i us → ItemsRead us is left → ItemsRead ts (i ∷ is) left
 one_more_item ts us left i is r m =
     record {
       taken = r.taken ++ m.taken;
       tokens = r.tokens ∙ ap (λ us. r.taken ++ us) m.tokens ∙ sym (append_assoc r.taken m.taken left);
-      holds = λ earlier before st u fair.
+      holds = λ earlier before st u tokenized.
           let parts = unpassed_split (problem_fault_at problem_bounds) earlier r.taken m.taken u in
-          let fairs = fair_split r.taken m.taken fair in
-          let one = r.holds earlier before st parts.0 fairs.0 in
-          let rest = m.holds (earlier ++ r.taken) (before ++ map as_tokens one.trees) one.stands parts.1 fairs.1 in
+          let halves = tokenized_split r.taken m.taken tokenized in
+          let one = r.holds earlier before st parts.0 halves.0 in
+          let rest = m.holds (earlier ++ r.taken) (before ++ map as_tokens one.trees) one.stands parts.1 halves.1 in
           record {
             trees = one.trees ++ rest.trees;
-            written = (λ j. one.written j ++ rest.written j) ∙ sym (map_append as_written one.trees rest.trees);
+            written = (λ j. one.written j ++ rest.written j) ∙ sym (map-append as_written one.trees rest.trees);
             admitted = all_join (λ (c : Homed). IsAdmitted c.1) one.trees rest.trees one.admitted rest.admitted;
             numbers = (one.number, rest.numbers);
             stands = subst (λ us. Stands us None (before ++ map as_tokens (one.trees ++ rest.trees))) (append_assoc earlier r.taken m.taken)
                 (subst (λ new. Stands ((earlier ++ r.taken) ++ m.taken) None new)
-                (append_assoc before (map as_tokens one.trees) (map as_tokens rest.trees) ∙ ap (λ new. before ++ new) (sym (map_append as_tokens one.trees rest.trees))) rest.stands);
+                (append_assoc before (map as_tokens one.trees) (map as_tokens rest.trees) ∙ ap (λ new. before ++ new) (sym (map-append as_tokens one.trees rest.trees))) rest.stands);
           };
     }
 
@@ -148,14 +144,14 @@ take_front xs ys =
     let e : length (xs ++ ys) - length ys ≡ length xs = omega (arith, length-append xs ys) in
     ap (λ (n : ℕ). take n (xs ++ ys)) e ∙ take-append_seam xs ys
 
-sound_from : (ts : List Token) (is : List Item) (left : List Token) → ItemsRead ts is left → first_passed (problem_fault_at problem_bounds) (before left ts) ≡ None → AreFair (before left ts) → AreSound is
-sound_from ts is left r u fair =
+sound_from : (ts : List Token) (is : List Item) (left : List Token) → ItemsRead ts is left → first_passed (problem_fault_at problem_bounds) (before left ts) ≡ None → AreTokenized (before left ts) → AreSound is
+sound_from ts is left r u tokenized =
     let cut : before left ts ≡ r.taken = ap (before left) r.tokens ∙ take_front r.taken left in
-    let h = r.holds [] [] begins (subst (IsUnpassed []) cut u) (subst AreFair cut fair) in
+    let h = r.holds [] [] begins (subst (IsUnpassed []) cut u) (subst AreTokenized cut tokenized) in
     record { trees = h.trees; written = h.written; admitted = h.admitted; numbers = h.numbers; whole = h.stands.whole }
 
-pub problem_sound : (ts : List Token) (is : List Item) (left : List Token) → Gives (problem ts) is left → first_passed (problem_fault_at problem_bounds) (before left ts) ≡ None → AreFair (before left ts) → AreSound is
+pub problem_sound : (ts : List Token) (is : List Item) (left : List Token) → Gives (problem ts) is left → first_passed (problem_fault_at problem_bounds) (before left ts) ≡ None → AreTokenized (before left ts) → AreSound is
 problem_sound ts is left e = sound_from ts is left (items_read at_end (length ts) ts is left e)
 
-pub items_sound : (ts : List Token) (is : List Item) (left : List Token) → Gives (items ts) is left → first_passed (problem_fault_at problem_bounds) (before left ts) ≡ None → AreFair (before left ts) → AreSound is
+pub items_sound : (ts : List Token) (is : List Item) (left : List Token) → Gives (items ts) is left → first_passed (problem_fault_at problem_bounds) (before left ts) ≡ None → AreTokenized (before left ts) → AreSound is
 items_sound ts is left e = sound_from ts is left (items_read at_proof_or_end (length ts) ts is left e)

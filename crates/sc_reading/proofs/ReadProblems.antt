@@ -1,5 +1,5 @@
 -- Every problem that is read keeps what a problem keeps.
-use Rattle.std.proofs.Common.{◌≡◌, ◌∙◌, sym, ap, subst, refl, ℕ, ◌-◌, List, ◌++◌, length, take, drop, Option, Some, None, Result, Ok, Err}
+use Rattle.std.proofs.Common.{◌≡◌, ◌∙◌, sym, ap, subst, refl, ℕ, ◌-◌, List, length, take, drop, Option, Some, None, Result, Ok, Err}
 use Rattle.std.proofs.lemmas.List.{take-append-drop}
 use Rattle.sc_reading.specs.declared.fault.Place.{Place}
 use Rattle.sc_reading.specs.declared.token.Token.{Token}
@@ -10,21 +10,21 @@ use Rattle.sc_reading.specs.ProblemGrammar.{Item, problem, items}
 use Rattle.sc_reading.specs.Problem.{Stated, stated}
 use Rattle.sc_reading.specs.Reading.{problem_tokens, judged_items, problem_of, StatedItems, items_of}
 use Rattle.sc_reading.specs.WellFormed.{IsProblem}
-use Rattle.sc_reading.proofs.FairTokens.{AreFair, fair_split}
-use Rattle.sc_reading.proofs.FairText.{problem_tokens_fair}
-use Rattle.sc_reading.proofs.ProblemRead.{AreSound, problem_sound, items_sound}
+use Rattle.sc_reading.proofs.Tokenized.{AreTokenized, tokenized_split}
+use Rattle.sc_reading.proofs.TextTokenized.{problem_tokens_tokenized}
+use Rattle.sc_reading.proofs.ProblemRead.{problem_sound, items_sound}
 use Rattle.sc_reading.proofs.WellFormedLaw.{is_problem}
 
 -- ---- from the tokens
 
-fair_before : (left ts : List Token) → AreFair ts → AreFair (before left ts)
-fair_before left ts h = let n = length ts - length left in (fair_split (take n ts) (drop n ts) (subst AreFair (sym (take-append-drop n ts)) h)).0
+tokenized_before : (left ts : List Token) → AreTokenized ts → AreTokenized (before left ts)
+tokenized_before left ts h = let n = length ts - length left in (tokenized_split (take n ts) (drop n ts) (subst AreTokenized (sym (take-append-drop n ts)) h)).0
 
-pub problem_is_problem : (ts : List Token) (is : List Item) (left : List Token) → AreFair ts → problem ts ≡ Ok (is, left) → first_passed (problem_fault_at problem_bounds) (before left ts) ≡ None → IsProblem (stated is)
-problem_is_problem ts is left fair e u = is_problem is (problem_sound ts is left e u (fair_before left ts fair))
+pub problem_is_problem : (ts : List Token) (is : List Item) (left : List Token) → AreTokenized ts → problem ts ≡ Ok (is, left) → first_passed (problem_fault_at problem_bounds) (before left ts) ≡ None → IsProblem (stated is)
+problem_is_problem ts is left tokenized e u = is_problem is (problem_sound ts is left e u (tokenized_before left ts tokenized))
 
-pub items_are_problem : (ts : List Token) (is : List Item) (left : List Token) → AreFair ts → items ts ≡ Ok (is, left) → first_passed (problem_fault_at problem_bounds) (before left ts) ≡ None → IsProblem (stated is)
-items_are_problem ts is left fair e u = is_problem is (items_sound ts is left e u (fair_before left ts fair))
+pub items_are_problem : (ts : List Token) (is : List Item) (left : List Token) → AreTokenized ts → items ts ≡ Ok (is, left) → first_passed (problem_fault_at problem_bounds) (before left ts) ≡ None → IsProblem (stated is)
+items_are_problem ts is left tokenized e u = is_problem is (items_sound ts is left e u (tokenized_before left ts tokenized))
 
 -- ---- from the bytes
 
@@ -58,7 +58,7 @@ read_problem bytes p e = by (judged_items problem_bounds problem bytes) refl e
     by (Ok v) h e =
         let j = judged_ok (problem_fault_at problem_bounds) (length bytes) (problem_tokens bytes) (problem (problem_tokens bytes)) v h in
         let same : stated v.0 ≡ p = cc in
-        subst IsProblem same (problem_is_problem (problem_tokens bytes) v.0 v.1 (problem_tokens_fair bytes) j.read j.unpassed)
+        subst IsProblem same (problem_is_problem (problem_tokens bytes) v.0 v.1 (problem_tokens_tokenized bytes) j.read j.unpassed)
     by (Err q) h e = absurd cc
 
 with_rest : List ℕ → Result (List Item × List Token) Place → Result StatedItems Place
@@ -72,5 +72,5 @@ read_items bytes p e = by (judged_items problem_bounds items bytes) refl e
     by (Ok v) h e =
         let j = judged_ok (problem_fault_at problem_bounds) (length bytes) (problem_tokens bytes) (items (problem_tokens bytes)) v h in
         let all : record { problem = stated v.0; rest = place_of (length bytes) v.1 } ≡ p = cc in
-        subst IsProblem (ap (λ (p : StatedItems). p.problem) all) (items_are_problem (problem_tokens bytes) v.0 v.1 (problem_tokens_fair bytes) j.read j.unpassed)
+        subst IsProblem (ap (λ (p : StatedItems). p.problem) all) (items_are_problem (problem_tokens bytes) v.0 v.1 (problem_tokens_tokenized bytes) j.read j.unpassed)
     by (Err q) h e = absurd cc

@@ -1,16 +1,16 @@
 -- The tokens that spell a side are read as that side, whatever stands behind them that continues no side.
-use Rattle.std.proofs.Common.{◌≡◌, ◌∙◌, sym, ap, subst, refl, ℕ, zero, suc, ◌+◌, ◌≤◌, Bool, true, false, List, [], ◌∷◌, ◌++◌, length, append_assoc, Ok, Err, arith}
-use Rattle.std.specs.Prelude.{codes, flat_map}
-use Rattle.std.proofs.lemmas.List.{length-append, append-nil}
+use Rattle.std.proofs.Common.{◌≡◌, ◌∙◌, ap, refl, ℕ, zero, suc, ◌≤◌, Bool, true, false, List, [], ◌∷◌, ◌++◌, length, append_assoc, Ok, arith}
+use Rattle.std.specs.Prelude.{flat_map}
+use Rattle.std.proofs.lemmas.List.{length-append}
 use Rattle.sc_reading.specs.declared.token.Token.{Token}
-use Rattle.sc_reading.specs.declared.token.Token.TheVariants.{Word, Punctuation, Refused}
+use Rattle.sc_reading.specs.declared.token.Token.TheVariants.{Word, Punctuation}
 use Rattle.sc_reading.specs.declared.token.Sign.{Sign}
 use Rattle.sc_reading.specs.declared.token.Sign.TheVariants.{Open, Close, Comma}
-use Rattle.sc_reading.specs.Token.{is_sign, same_text}
-use Rattle.sc_reading.specs.Reader.{Read, Name, ◌>>=◌, unexpected, next_is, the_sign, a_name, separated}
+use Rattle.sc_reading.specs.Token.{is_sign}
+use Rattle.sc_reading.specs.Reader.{Read, Name, ◌>>=◌, unexpected, next_is, the_sign, separated}
 use Rattle.sc_reading.specs.Syntax.{Side}
 use Rattle.sc_reading.specs.ClauseGrammar.{bracketed, arguments, side_within, side}
-use Rattle.sc_reading.proofs.Spelling.{Head, Sides, Empty, Entry, in_brackets, behind_comma, tokens_of, side_tokens, count, occurrence, occurrences, side_of, IsName, AreNames}
+use Rattle.sc_reading.proofs.Spelling.{Head, Sides, Empty, Entry, in_brackets, behind_comma, tokens_of, side_tokens, count, occurrences, side_of, IsName, AreNames}
 use Rattle.sc_reading.proofs.Taken.{Gives}
 
 -- ---- each side by itself
@@ -96,9 +96,9 @@ sides_back_from n k h args comma others left b c ends =
     ap (λ (ts : List Token). after_side n k (side_within n (Word h.at h.text ∷ ts))) (append_assoc (in_brackets h args (tokens_of args)) (behind_comma comma others (tokens_of others)) left)
     ∙ ap (after_side n k) b ∙ others_back n k (side_of h args) comma others left c ends
 
-in_brackets-length : (h : Head) (args : Sides) (ts : List Token) → length (tokens_of args) ≤ length (in_brackets h args (tokens_of args))
-in_brackets-length h Empty ts = omega arith
-in_brackets-length h (Entry g args comma others) ts = let e = length-append (tokens_of (Entry g args comma others)) (Punctuation h.closing Close ∷ []) in omega arith
+in_brackets-length : (h : Head) (args : Sides) → length (tokens_of args) ≤ length (in_brackets h args (tokens_of args))
+in_brackets-length h Empty = omega arith
+in_brackets-length h (Entry g args comma others) = let e = length-append (tokens_of (Entry g args comma others)) (Punctuation h.closing Close ∷ []) in omega arith
 
 behind_comma-length : (at : ℕ) (others : Sides) → length (tokens_of others) ≤ length (behind_comma at others (tokens_of others))
 behind_comma-length at Empty = omega arith
@@ -115,7 +115,7 @@ sides_back (suc n) zero (Entry h args comma others) left l l' names ends = absur
 sides_back (suc n) (suc k) (Entry h args comma others) left l l' names ends =
     let behind = behind_comma comma others (tokens_of others) in
     let sum = length-append (in_brackets h args (tokens_of args)) behind in
-    let in_args = in_brackets-length h args [] in
+    let in_args = in_brackets-length h args in
     let in_others = behind_comma-length comma others in
     sides_back_from (suc n) k h args comma others left
     (side_back_from n h args (behind ++ left)
@@ -127,6 +127,6 @@ pub side_back : (h : Head) (args : Sides) (left : List Token) → IsName h → A
 side_back h args left named names e =
     let n = length (in_brackets h args (tokens_of args) ++ left) in
     let sum = length-append (in_brackets h args (tokens_of args)) left in
-    let in_args = in_brackets-length h args [] in
+    let in_args = in_brackets-length h args in
     side_back_from n h args left
     (sides_back n n args (Punctuation h.closing Close ∷ left) (omega arith) (omega arith) names (record { opening = refl; comma = refl })) named e

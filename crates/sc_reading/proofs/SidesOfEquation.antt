@@ -1,5 +1,5 @@
 -- The names before the sign of an equation are those of its left side, and those behind it of its right side.
-use Rattle.std.proofs.Common.{◌≡◌, ◌∙◌, sym, ap, subst, refl, ℕ, suc, ◌<◌, Bool, true, false, List, [], ◌∷◌, ◌++◌, cond, arith}
+use Rattle.std.proofs.Common.{◌≡◌, ◌∙◌, ap, subst, refl, ℕ, suc, ◌<◌, Bool, true, false, List, [], ◌∷◌, ◌++◌, cond, arith}
 use Rattle.std.specs.Prelude.{filter, nat_lt}
 use Rattle.std.specs.List.{AllByRecursion}
 use Rattle.std.proofs.lemmas.Bool.{leb-true}
@@ -7,7 +7,7 @@ use Rattle.std.proofs.lemmas.List.{append-nil}
 use Rattle.std.proofs.lemmas.List.Elements.{filter-append}
 use Rattle.sc_data.proofs.SubstitutionLaws.{all_split, all_join}
 use Rattle.sc_reading.specs.declared.token.Token.{Token}
-use Rattle.sc_reading.specs.declared.token.Token.TheVariants.{Word, Punctuation}
+use Rattle.sc_reading.specs.declared.token.Token.TheVariants.{Punctuation}
 use Rattle.sc_reading.specs.declared.token.Sign.TheVariants.{Close}
 use Rattle.sc_reading.specs.Token.{at_of}
 use Rattle.sc_reading.specs.declared.written.Occurrence.{Occurrence}
@@ -15,7 +15,7 @@ use Rattle.sc_reading.specs.declared.written.WrittenLiteral.{WrittenLiteral}
 use Rattle.sc_reading.specs.Demodulator.{left_side, right_side}
 use Rattle.sc_reading.proofs.Spelling.{Head, Sides, Empty, Entry, in_brackets, behind_comma, tokens_of, side_tokens, occurrences, side_of}
 use Rattle.sc_reading.proofs.ClauseSpelling.{Equated, Equation, equal_sign, atom_tokens, atom_written}
-use Rattle.sc_reading.proofs.FairTokens.{Ascend, ascend_split}
+use Rattle.sc_reading.proofs.Tokenized.{Ascend, ascend_split}
 use Rattle.sc_reading.proofs.SymbolNumbers.{less}
 
 -- ---- what holds of the places of tokens holds of the places of names

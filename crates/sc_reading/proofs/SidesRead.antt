@@ -1,14 +1,14 @@
 -- Where a side is read, it is the occurrences of a tree, and the tokens are those that spell it.
-use Rattle.std.proofs.Common.{◌≡◌, ◌∙◌, sym, ap, subst, refl, ℕ, zero, suc, ◌+◌, Bool, true, false, List, [], ◌∷◌, ◌++◌, length, append_assoc, Ok, Err, ◌⊎◌, inl, inr, arith}
-use Rattle.std.specs.Prelude.{codes, flat_map}
+use Rattle.std.proofs.Common.{◌≡◌, ◌∙◌, sym, ap, subst, refl, ℕ, zero, suc, Bool, true, false, List, [], ◌∷◌, ◌++◌, length, append_assoc, Ok, arith}
+use Rattle.std.specs.Prelude.{flat_map}
 use Rattle.sc_reading.specs.declared.token.Token.{Token}
-use Rattle.sc_reading.specs.declared.token.Token.TheVariants.{Word, Punctuation, Refused}
+use Rattle.sc_reading.specs.declared.token.Token.TheVariants.{Word, Punctuation}
 use Rattle.sc_reading.specs.declared.token.Sign.TheVariants.{Open, Close, Comma}
 use Rattle.sc_reading.specs.Token.{is_sign}
-use Rattle.sc_reading.specs.Reader.{Read, Name, ◌>>=◌, unexpected, next_is, the_sign, a_name, separated}
+use Rattle.sc_reading.specs.Reader.{Read, ◌>>=◌, next_is, the_sign, a_name, separated}
 use Rattle.sc_reading.specs.Syntax.{Side}
 use Rattle.sc_reading.specs.ClauseGrammar.{bracketed, arguments, side_within, side}
-use Rattle.sc_reading.proofs.Spelling.{Head, Sides, Empty, Entry, in_brackets, behind_comma, tokens_of, side_tokens, count, occurrence, occurrences, side_of, IsName, AreNames}
+use Rattle.sc_reading.proofs.Spelling.{Head, Sides, Empty, Entry, in_brackets, tokens_of, side_tokens, count, occurrence, occurrences, side_of, IsName, AreNames}
 use Rattle.sc_reading.proofs.Taken.{Gives, both, same, Sign-taken, sign_taken, name_taken}
 use Rattle.std.proofs.lemmas.List.{append-nil}
 

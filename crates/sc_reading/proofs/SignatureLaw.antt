@@ -1,18 +1,16 @@
 -- The symbols of written clauses are a signature, where they are few and no name has many arguments.
-use Rattle.std.proofs.Common.{◌≡◌, ◌∙◌, sym, ap, subst, refl, ℕ, ◌<◌, ◌≤◌, Bool, true, false, List, [], ◌∷◌, ◌++◌, map, length, get_or, Option, Some, None, ◌⊎◌, inl, inr, cond, arith}
+use Rattle.std.proofs.Common.{◌≡◌, ◌∙◌, sym, ap, refl, ℕ, ◌<◌, ◌≤◌, Bool, true, false, List, [], ◌∷◌, map, length, get_or, Some, None, ◌⊎◌, inl, inr, cond, arith}
 use Rattle.std.proofs.lemmas.Option.{slice_get_cases}
-use Rattle.std.specs.Prelude.{not, filter, flat_map, slice_get, if◌then◌else◌}
-use Rattle.std.specs.List.{AllByRecursion, IsDistinct, list_any}
-use Rattle.std.specs.Cmp.{IsEquivalence}
+use Rattle.std.specs.Prelude.{not, filter, flat_map, slice_get}
+use Rattle.std.specs.List.{AllByRecursion, IsDistinct}
 use Rattle.std.proofs.lemmas.List.{length-map}
 use Rattle.sc_data.proofs.SubstitutionLaws.{all_join}
 use Rattle.sc_term.specs.declared.symbol.Symbol.{Symbol}
 use Rattle.sc_term.specs.Symbol.{same_symbol, equality, IsSignature}
 use Rattle.sc_term.proofs.SymbolLaws.{equal_symbols, same_as_itself}
 use Rattle.sc_reading.specs.declared.written.Occurrence.{Occurrence}
-use Rattle.sc_reading.specs.declared.written.WrittenLiteral.{WrittenLiteral}
 use Rattle.sc_reading.specs.Syntax.{WrittenClause}
-use Rattle.sc_reading.specs.Numbering.{once, Found, is_variable, function_at, predicate_at, found_in, symbol_order, symbols_of}
+use Rattle.sc_reading.specs.Numbering.{Found, is_variable, function_at, found_in, symbol_order, symbols_of}
 use Rattle.sc_reading.proofs.ArityLaw.{SmallArity}
 use Rattle.sc_reading.proofs.ClauseArity.{IsNarrow}
 use Rattle.sc_reading.proofs.Once.{once-all, once-distinct}

@@ -5,13 +5,12 @@ use Rattle.std.specs.List.{AllByRecursion}
 use Rattle.std.proofs.lemmas.List.{append-nil}
 use Rattle.sc_reading.specs.declared.settings.Home.{Home}
 use Rattle.sc_reading.specs.declared.token.Token.{Token}
-use Rattle.sc_reading.specs.declared.token.Token.TheVariants.{Word, Punctuation}
+use Rattle.sc_reading.specs.declared.token.Token.TheVariants.{Punctuation}
 use Rattle.sc_reading.specs.declared.token.Sign.TheVariants.{Stop}
 use Rattle.sc_reading.specs.Token.{is_sign}
-use Rattle.sc_reading.specs.Position.{Position, position, sentences, opened, closes, clauses_of, home_behind}
+use Rattle.sc_reading.specs.Position.{position, sentences, opened, closes, clauses_of, home_behind}
 use Rattle.sc_reading.specs.ProblemLimits.{problem_bounds, symbols_told, demodulators_told}
 use Rattle.sc_reading.proofs.OneMore.{sentences-stop, sentences-other, home_behind-one_more}
-use Rattle.sc_reading.proofs.Unpassed.{IsClear}
 
 -- no full stop among them
 abbrev pub HasNoStop : List Token → Type 0

@@ -1,11 +1,9 @@
 -- Each symbol of the clauses has its number among their symbols.
-use Rattle.std.proofs.Common.{◌≡◌, ◌∙◌, sym, ap, subst, refl, ℕ, suc, ◌+◌, ◌<◌, Bool, true, false, List, [], ◌∷◌, ◌++◌, map, length, cond, Option, Some, None, arith}
+use Rattle.std.proofs.Common.{◌≡◌, ◌∙◌, sym, ap, refl, ℕ, suc, ◌+◌, ◌<◌, Bool, true, false, List, [], ◌∷◌, map, length, cond, Option, Some, None, arith}
 use Rattle.std.specs.Prelude.{◌||◌, ◌&&◌, not, filter, flat_map, slice_get, position, unwrap_or, nat_lt, ◌==◌}
 use Rattle.std.specs.List.{AllByRecursion, list_any, position_or_len}
 use Rattle.std.proofs.lemmas.Bool.{le-leb, eq-eqb}
 use Rattle.sc_data.proofs.SubstitutionLaws.{all_split}
-use Rattle.sc_data.specs.declared.SymId.{SymId}
-use Rattle.sc_term.specs.declared.symbol.Role.{Role}
 use Rattle.sc_term.specs.declared.symbol.Symbol.{Symbol}
 use Rattle.sc_term.specs.Symbol.{same_symbol, role_number, equality}
 use Rattle.sc_term.proofs.SymbolLaws.{same_as_itself, found}
@@ -16,6 +14,7 @@ use Rattle.sc_reading.specs.Numbering.{number_of, Found, is_variable, function_a
 use Rattle.sc_reading.specs.WellFormed.{is_used_as}
 use Rattle.sc_reading.proofs.Once.{once-holds}
 use Rattle.sc_reading.proofs.SignatureLaw.{same_found}
+use Rattle.sc_reading.proofs.Booleans.{both_hold}
 
 -- ---- the first that passes
 
@@ -47,12 +46,7 @@ symbol_found symbols s e = found symbols s (number_of (same_symbol s) symbols) (
 pub used_as : (symbols : List Symbol) (s : Symbol) (n : ℕ) → IsListed symbols s → s.arity ≡ n → is_used_as symbols s.role (symbol_number symbols s) n ≡ true
 used_as symbols s n e k =
     ap (λ (o : Option Symbol). elim o [ None ↦ false | Some t ↦ role_number t.role == role_number s.role && t.arity == n ]) (symbol_found symbols s e)
-    ∙ both (role_number s.role == role_number s.role) (s.arity == n) (eq-eqb _ (role_number s.role) refl) (eq-eqb s.arity n k)
-  where
-    both : (a b : Bool) → a ≡ true → b ≡ true → (a && b) ≡ true
-    both true true e k = refl
-    both true false e k = k
-    both false b e k = e
+    ∙ both_hold (role_number s.role == role_number s.role) (s.arity == n) (eq-eqb _ (role_number s.role) refl) (eq-eqb s.arity n k)
 
 -- ---- the symbols of the clauses are listed
 

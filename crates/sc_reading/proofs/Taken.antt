@@ -1,5 +1,5 @@
 -- What the tokens were where a production of one token gives a value.
-use Rattle.std.proofs.Common.{◌≡◌, ◌∙◌, sym, ap, subst, refl, ℕ, Bool, true, false, List, [], ◌∷◌, Ok, Err, eqb, ◌⊎◌, inl, inr}
+use Rattle.std.proofs.Common.{◌≡◌, ◌∙◌, sym, ap, refl, ℕ, Bool, true, false, List, [], ◌∷◌, Ok, Err}
 use Rattle.std.specs.Prelude.{codes, Option, Some, slice_get}
 use Rattle.std.proofs.lemmas.Bool.{eqb-true}
 use Rattle.sc_reading.specs.declared.token.Token.{Token}
@@ -36,10 +36,6 @@ same {A} a b ts us e =
   where
     ok_injective : (v w : A × List Token) → Gives (Ok v) w.0 w.1 → v ≡ w
     ok_injective v w e = cc
-
-pub one_of : {A : Type 0} (b : Bool) (x y : Read A) (a : A) (ts : List Token) → Gives (elim b [ true ↦ x | false ↦ y ]) a ts → ((b ≡ true) × Gives x a ts) ⊎ ((b ≡ false) × Gives y a ts)
-one_of true x y a ts e = inl (refl, e)
-one_of false x y a ts e = inr (refl, e)
 
 -- ---- signs
 

@@ -1,16 +1,14 @@
 -- The terms that are made of the occurrences of a tree are those of the tree.
-use Rattle.std.proofs.Common.{◌≡◌, ◌∙◌, sym, ap, subst, refl, ℕ, ◌+◌, List, [], ◌∷◌, ◌++◌, map, take, drop, length, append_assoc, Option, Some, None, arith}
+use Rattle.std.proofs.Common.{◌≡◌, ◌∙◌, sym, ap, refl, ℕ, List, [], ◌∷◌, ◌++◌, take, drop, length, append_assoc, Option, Some, None, arith}
 use Rattle.std.proofs.lemmas.List.{append-nil}
 use Rattle.std.proofs.Math.Seq.{take-append_seam, drop-append_seam}
 use Rattle.sc_data.specs.declared.Term.{Term}
 use Rattle.sc_data.specs.declared.Term.TheVariants.{Var, App}
-use Rattle.sc_data.specs.declared.Literal.{Literal}
 use Rattle.sc_term.specs.declared.symbol.Symbol.{Symbol}
 use Rattle.sc_reading.specs.declared.written.Occurrence.{Occurrence}
-use Rattle.sc_reading.specs.declared.written.WrittenLiteral.{WrittenLiteral}
-use Rattle.sc_reading.specs.Numbering.{function_at, symbol_number, term_at, terms_of, literal_of}
-use Rattle.sc_reading.proofs.Spelling.{Head, Sides, Empty, Entry, count, occurrence, occurrences, side_of}
-use Rattle.sc_reading.proofs.ClauseSpelling.{Equated, Atom, Plain, Equation, atom_written}
+use Rattle.sc_reading.specs.Numbering.{function_at, symbol_number, term_at, terms_of}
+use Rattle.sc_reading.proofs.Spelling.{Sides, Empty, Entry, count, occurrence, occurrences}
+use Rattle.sc_reading.proofs.ClauseSpelling.{Atom, Plain, Equation, atom_written}
 
 module _ (variable : Occurrence → Option ℕ) (symbols : List Symbol) where
   abbrev pub term_from : Occurrence → List Term → Term

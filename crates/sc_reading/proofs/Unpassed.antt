@@ -6,8 +6,8 @@ use Rattle.sc_reading.specs.declared.fault.InputKind.TheVariants.{OutOfRange, To
 use Rattle.sc_reading.specs.declared.fault.Place.{Place}
 use Rattle.sc_reading.specs.declared.token.Token.{Token}
 use Rattle.sc_reading.specs.Position.{Position, position, clause_so_far}
-use Rattle.sc_reading.specs.Faults.{Limit, place, passed, passed_behind}
-use Rattle.sc_reading.specs.ClauseLimits.{Bounds, arity_told, weight_told, depth_told}
+use Rattle.sc_reading.specs.Faults.{place, passed, passed_behind}
+use Rattle.sc_reading.specs.ClauseLimits.{arity_told, weight_told, depth_told}
 use Rattle.sc_reading.specs.ProblemLimits.{problem_limits, problem_bounds, problem_fault_at, number_told, clauses_told, symbols_told, demodulators_told}
 
 or_else : Option Place → Option Place → Option Place

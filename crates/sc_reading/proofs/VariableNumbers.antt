@@ -4,20 +4,20 @@ use Rattle.std.specs.Prelude.{◌&&◌, ◌==◌, filter, flat_map, position, na
 use Rattle.std.specs.List.{AllByRecursion, list_any}
 use Rattle.std.specs.Cmp.Lexicographic.{bytes_decides}
 use Rattle.std.proofs.lemmas.Bool.{eqb-true}
+use Rattle.std.proofs.lemmas.List.{map-append}
 use Rattle.std.proofs.lemmas.List.Elements.{filter-append}
 use Rattle.sc_data.proofs.SubstitutionLaws.{all_split}
 use Rattle.sc_data.specs.declared.Term.{Term}
 use Rattle.sc_data.specs.declared.Term.TheVariants.{Var, App}
 use Rattle.sc_data.specs.declared.Literal.{Literal}
 use Rattle.sc_data.specs.Term.{joined, term_variables}
-use Rattle.sc_data.specs.Clause.{variables}
 use Rattle.sc_data.proofs.TermSteps.{variables-Var, variables-App}
 use Rattle.sc_term.specs.declared.symbol.Symbol.{Symbol}
 use Rattle.sc_reading.specs.Tokens.{begins}
 use Rattle.sc_reading.specs.declared.written.Occurrence.{Occurrence}
 use Rattle.sc_reading.specs.declared.written.WrittenLiteral.{WrittenLiteral}
 use Rattle.sc_reading.specs.Syntax.{WrittenClause}
-use Rattle.sc_reading.specs.Numbering.{once, number_of, is_variable, variables_of, same_name, variable_order, function_at, symbol_number, literal_of, number_in}
+use Rattle.sc_reading.specs.Numbering.{number_of, is_variable, variables_of, same_name, variable_order, function_at, symbol_number, literal_of, number_in}
 use Rattle.sc_reading.proofs.Spelling.{Head, Sides, Empty, Entry, count, occurrence, occurrences}
 use Rattle.sc_reading.proofs.ClauseSpelling.{LiteralTree, literal_written}
 use Rattle.sc_reading.proofs.Terms.{term_from, terms, sides_under}
@@ -57,11 +57,7 @@ abbrev pub numbers_of : List Occurrence → List Occurrence → List ℕ
 numbers_of order os = map (number order) (filter is_variable os)
 
 pub numbers-append : (order xs ys : List Occurrence) → numbers_of order (xs ++ ys) ≡ numbers_of order xs ++ numbers_of order ys
-numbers-append order xs ys = ap (map (number order)) (filter-append is_variable xs ys) ∙ map_append (filter is_variable xs) (filter is_variable ys)
-  where
-    map_append : (xs ys : List Occurrence) → map (number order) (xs ++ ys) ≡ map (number order) xs ++ map (number order) ys
-    map_append [] ys = refl
-    map_append (x ∷ xs) ys = ap (λ l. number order x ∷ l) (map_append xs ys)
+numbers-append order xs ys = ap (map (number order)) (filter-append is_variable xs ys) ∙ map-append (number order) (filter is_variable xs) (filter is_variable ys)
 
 module _ (order : List Occurrence) (symbols : List Symbol) where
   abbrev tree_terms : Sides → List Term

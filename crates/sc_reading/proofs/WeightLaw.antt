@@ -1,24 +1,20 @@
 -- A clause's weight is at most the count over its tokens.
-use Rattle.std.proofs.Common.{◌≡◌, ◌∙◌, sym, ap, subst, refl, ℕ, ◌+◌, ◌≤◌, Bool, true, false, List, [], ◌∷◌, ◌++◌, map, sum, Option, Some, None, arith}
-use Rattle.std.specs.Prelude.{flat_map, count_by, cond}
+use Rattle.std.proofs.Common.{◌≡◌, ◌∙◌, ap, refl, ℕ, ◌+◌, ◌≤◌, Bool, true, List, [], ◌∷◌, ◌++◌, map, sum, Option, Some, None, arith}
+use Rattle.std.specs.Prelude.{cond}
 use Rattle.std.proofs.lemmas.List.Sums.{sum_by-append, sum_by-cons}
-use Rattle.sc_data.specs.declared.SymId.{SymId}
 use Rattle.sc_data.specs.declared.Term.{Term}
 use Rattle.sc_data.specs.declared.Term.TheVariants.{Var, App}
-use Rattle.sc_data.specs.declared.Literal.{Literal}
 use Rattle.sc_data.specs.Term.{term_weight, weight_step}
-use Rattle.sc_data.specs.Clause.{literal_weight, weight}
 use Rattle.sc_data.proofs.TermLaws.{fold-Var, weight-App}
 use Rattle.sc_term.specs.declared.symbol.Symbol.{Symbol}
 use Rattle.sc_reading.specs.declared.token.Token.{Token}
 use Rattle.sc_reading.specs.declared.token.Token.TheVariants.{Word, Punctuation}
-use Rattle.sc_reading.specs.declared.token.Sign.TheVariants.{Open, Close, Comma}
+use Rattle.sc_reading.specs.declared.token.Sign.TheVariants.{Close}
 use Rattle.sc_reading.specs.declared.written.Occurrence.{Occurrence}
 use Rattle.sc_reading.specs.Measures.{has_weight, weight_so_far}
-use Rattle.sc_reading.specs.Numbering.{function_at, symbol_number, literal_of, clause_of, number_in, variable_order}
-use Rattle.sc_reading.proofs.Spelling.{Head, Sides, Empty, Entry, in_brackets, behind_comma, tokens_of, side_tokens, occurrence, occurrences}
-use Rattle.sc_reading.proofs.ClauseSpelling.{Equated, Atom, Plain, Equation, Wrapping, Bare, Negative, Brackets, NegativeBrackets, LiteralTree, ClauseTree, Falsum, Literals, equal_sign, atom_tokens, opening_tokens, closing_tokens, literal_tokens, behind_bar, clause_tokens, literal_written, clause_written}
-use Rattle.sc_reading.proofs.Terms.{term_from, terms, sides_under}
+use Rattle.sc_reading.specs.Numbering.{function_at, symbol_number}
+use Rattle.sc_reading.proofs.Spelling.{Head, Sides, Empty, Entry, in_brackets, behind_comma, tokens_of, side_tokens, occurrence}
+use Rattle.sc_reading.proofs.Terms.{term_from, terms}
 
 pub weight-append : (xs ys : List Token) → weight_so_far (xs ++ ys) ≡ weight_so_far xs + weight_so_far ys
 weight-append xs ys = sum_by-append _ xs ys

@@ -1,13 +1,12 @@
 -- A problem that is read, where no limit is passed, is one.
-use Rattle.std.proofs.Common.{◌≡◌, ◌∙◌, sym, ap, subst, refl, ℕ, ◌≤◌, Bool, true, false, List, [], ◌∷◌, ◌++◌, map, length, cond, Option, Some, None, Result, Ok, Err, arith}
-use Rattle.std.specs.Prelude.{not, find, zip, option_map, option_and_then, position, unwrap_or, nat_lt, slice_get}
+use Rattle.std.proofs.Common.{◌≡◌, ◌∙◌, sym, ap, subst, refl, ℕ, ◌≤◌, Bool, true, false, List, [], ◌∷◌, map, length, cond, Option, Some, None, arith}
+use Rattle.std.specs.Prelude.{not, find, zip, option_map, option_and_then, unwrap_or, nat_lt, slice_get}
 use Rattle.std.specs.List.{AllByRecursion}
 use Rattle.std.proofs.lemmas.List.{length-map}
 use Rattle.sc_data.specs.declared.SymId.{SymId}
 use Rattle.sc_data.specs.declared.Clause.{Clause}
 use Rattle.sc_term.specs.declared.symbol.Symbol.{Symbol}
-use Rattle.sc_term.specs.Symbol.{equality, same_symbol, IsSignature}
-use Rattle.sc_reading.specs.declared.fault.Place.{Place}
+use Rattle.sc_term.specs.Symbol.{equality, IsSignature}
 use Rattle.sc_reading.specs.declared.settings.Home.{Home}
 use Rattle.sc_reading.specs.declared.settings.Home.TheVariants.{Usable, Sos, Passive, Demodulators}
 use Rattle.sc_reading.specs.declared.token.Token.{Token}
@@ -16,9 +15,9 @@ use Rattle.sc_reading.specs.Syntax.{WrittenClause}
 use Rattle.sc_reading.specs.Numbering.{Found, symbol_order, symbols_of, symbol_number, clause_of}
 use Rattle.sc_reading.specs.Demodulator.{is_demodulator}
 use Rattle.sc_reading.specs.ClauseLimits.{first_at}
-use Rattle.sc_reading.specs.ProblemLimits.{written, problem_bounds, symbols_told, is_bad_demodulator, demodulators_told}
+use Rattle.sc_reading.specs.ProblemLimits.{written, is_bad_demodulator}
 use Rattle.sc_reading.specs.ProblemGrammar.{Item}
-use Rattle.sc_reading.specs.Problem.{Stated, stated, listed_clauses, flags_of, params_of}
+use Rattle.sc_reading.specs.Problem.{stated}
 use Rattle.sc_reading.specs.WellFormed.{IsInput, FitsHome, IsProblem}
 use Rattle.sc_reading.proofs.ClauseSpelling.{ClauseTree, clause_tokens, clause_written}
 use Rattle.sc_reading.proofs.ClausesBack.{written_back}
@@ -106,7 +105,7 @@ fits symbols c h z e = by c.0 e
 
     by : (home : Home) → is_bad_demodulator (home, clause_tokens c.1) ≡ false → FitsHome (home, clause_of symbols (clause_written c.1))
     by Demodulators e =
-        demodulator-rewrites symbols c.1 z h.fair (ap is_demodulator (sym (written_back c.1 h.spelt)) ∙ is_true (is_demodulator (written (clause_tokens c.1))) e)
+        demodulator-rewrites symbols c.1 z h.tokenized (ap is_demodulator (sym (written_back c.1 h.spelt)) ∙ is_true (is_demodulator (written (clause_tokens c.1))) e)
     by Usable e = tt
     by Sos e = tt
     by Passive e = tt

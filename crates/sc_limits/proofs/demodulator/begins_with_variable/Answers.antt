@@ -1,4 +1,4 @@
-use Rattle.std.proofs.Common.{◌≡◌, ◌∙◌, ◌<◌, ap, List, length, false, get_or, arith}
+use Rattle.std.proofs.Common.{◌∙◌, ◌<◌, ap, List, length, get_or, arith}
 use Rattle.std.specs.Prelude.{nat_lt}
 use Rattle.std.proofs.lemmas.Bool.Decides.{nat_tests}
 use Rattle.sc_reading.specs.declared.written.Occurrence.{Occurrence}

@@ -1,4 +1,4 @@
-use Rattle.std.proofs.Common.{◌≡◌, ◌∙◌, ap, ◌&&◌, ◌||◌, not, List}
+use Rattle.std.proofs.Common.{◌∙◌, ap, ◌&&◌, ◌||◌, not, List}
 use Rattle.std.specs.Prelude.{nat_lt}
 use Rattle.std.specs.List.{list_any, list_all}
 use Rattle.sc_reading.specs.declared.written.Occurrence.{Occurrence}

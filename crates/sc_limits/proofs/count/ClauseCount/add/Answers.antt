@@ -1,4 +1,4 @@
-use Rattle.std.proofs.Common.{◌∙◌, sym, ap, ℕ, ◌+◌, arith}
+use Rattle.std.proofs.Common.{◌∙◌, sym, ap, ℕ, ◌+◌}
 use Rattle.sc_limits.proofs.Counts.{weight-yes, weight-no, counted}
 use Rattle.sc_limits.proofs.count.ClauseCount.add.Goals as goal
 

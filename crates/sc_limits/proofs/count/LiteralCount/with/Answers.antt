@@ -1,5 +1,5 @@
 use Rattle.std.proofs.Common.{◌∙◌, sym}
-use Rattle.sc_limits.proofs.Literals.{Begun, literal_begins, literal_begins_signed, literal_goes_on}
+use Rattle.sc_limits.proofs.Literals.{literal_begins, literal_begins_signed, literal_goes_on}
 use Rattle.sc_limits.proofs.count.LiteralCount.with.Goals as goal
 
 pub returns-else-is_sign-2-clause-counted : goal.returns-else-is_sign-2-clause-counted

@@ -1,5 +1,5 @@
-use Rattle.std.proofs.Common.{◌≡◌, ◌∙◌, sym, ap, subst, refl, ℕ, ◌+◌, ◌||◌, Bool, List}
-use Rattle.std.specs.Prelude.{Option, None, flat_map}
+use Rattle.std.proofs.Common.{◌∙◌, sym, subst, refl, ℕ, ◌+◌, ◌||◌}
+use Rattle.std.specs.Prelude.{Option, flat_map}
 use Rattle.sc_reading.specs.Syntax.{WrittenClause}
 use Rattle.sc_reading.specs.Numbering.{found_in}
 use Rattle.sc_reading.specs.ProblemLimits.{written}

@@ -1,14 +1,12 @@
-use Rattle.std.proofs.Common.{◌≡◌, ◌∙◌, sym, ap, subst, refl, Bool, true, false, List, [], ◌∷◌}
+use Rattle.std.proofs.Common.{◌≡◌, ◌∙◌, sym, ap, subst, refl, Bool, true, false, [], ◌∷◌}
 use Rattle.std.specs.Prelude.{Option, Some, None, Result, Ok, Err, IfOk, if◌then◌else◌}
 use Rattle.sc_reading.specs.declared.settings.Home.{Home}
-use Rattle.sc_reading.specs.declared.token.Token.{Token}
 use Rattle.sc_reading.specs.Position.{closes, opened}
 use Rattle.sc_limits.specs.Positions.{clause_ended, next_home}
 use Rattle.sc_reading.specs.declared.fault.Place.{Place}
 use Rattle.sc_term.specs.declared.memory.OutOfMemory.{OutOfMemory}
 use Rattle.sc_reading.specs.Position.{Position}
-use Rattle.sc_limits.specs.Reached.{Follows, Reaches}
-use Rattle.sc_limits.specs.Positions.{behind_stop, behind_clause}
+use Rattle.sc_limits.specs.Reached.{Reaches}
 use Rattle.sc_limits.proofs.Places.{nothing_ended, stop_behind_clause}
 use Rattle.sc_limits.proofs.reached.Reached.end_sentence.Goals as goal
 

@@ -1,11 +1,9 @@
-use Rattle.std.proofs.Common.{◌≡◌, ◌∙◌, sym, ap, subst, refl, ℕ, ◌+◌, ◌++◌, ◌∷◌, [], List, take, arith}
+use Rattle.std.proofs.Common.{◌≡◌, ◌∙◌, sym, ap, ℕ, ◌+◌, take}
 use Rattle.std.specs.Prelude.{Option, Some, None, Result, Ok, IfSome, option_map}
 use Rattle.sc_reading.specs.declared.fault.InputKind.TheVariants.{OutOfRange}
 use Rattle.sc_reading.specs.declared.fault.Place.{Place}
-use Rattle.sc_reading.specs.declared.token.Token.{Token}
 use Rattle.sc_reading.specs.Position.{position}
-use Rattle.sc_reading.specs.Faults.{place, first_passed}
-use Rattle.sc_reading.specs.ProblemLimits.{problem_bounds, problem_fault_at}
+use Rattle.sc_reading.specs.Faults.{place}
 use Rattle.sc_term.specs.declared.memory.OutOfMemory.{OutOfMemory}
 use Rattle.sc_limits.proofs.Steps.{one_taken, so_many, stop_told, stop_kept, clause_told, clause_goes_on, outside_told, outside_goes_on}
 use Rattle.sc_limits.proofs.reached.Reached.step.Goals as goal

@@ -1,5 +1,5 @@
 -- What the tokens of every text keep: they stand in order, and no word is `=`.
-use Rattle.std.proofs.Common.{◌≡◌, ℕ, ◌<◌, Bool, true, false, List, [], ◌∷◌, ◌++◌}
+use Rattle.std.proofs.Common.{◌≡◌, ◌<◌, false, List, [], ◌∷◌, ◌++◌}
 use Rattle.std.specs.Prelude.{codes}
 use Rattle.std.specs.List.{AllByRecursion}
 use Rattle.sc_data.proofs.SubstitutionLaws.{all_split}
@@ -11,7 +11,7 @@ abbrev pub Ascend : List Token → Type 0
 Ascend [] = Unit {0}
 Ascend (t ∷ ts) = AllByRecursion (λ u. at_of t < at_of u) ts × Ascend ts
 
-pub record AreFair (ts : List Token) : Type 0 where
+pub record AreTokenized (ts : List Token) : Type 0 where
   pub order : Ascend ts
   pub words : AllByRecursion (λ t. is_word (codes "=") t ≡ false) ts
 
@@ -22,8 +22,8 @@ ascend_split (x ∷ xs) ys h =
     let r = ascend_split xs ys h.1 in
     ((a.0, r.0), r.1, (a.1, r.2))
 
-pub fair_split : (xs ys : List Token) → AreFair (xs ++ ys) → AreFair xs × AreFair ys
-fair_split xs ys h =
+pub tokenized_split : (xs ys : List Token) → AreTokenized (xs ++ ys) → AreTokenized xs × AreTokenized ys
+tokenized_split xs ys h =
     let a = ascend_split xs ys h.order in
     let w = all_split (λ t. is_word (codes "=") t ≡ false) xs ys h.words in
     (record { order = a.0; words = w.0 }, record { order = a.1; words = w.1 })
