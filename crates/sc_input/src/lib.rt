@@ -9,6 +9,7 @@
 #![tactic(auto)]
 
 
+mod read;
 mod refusal;
 
 
