@@ -12,6 +12,8 @@ use Rattle.sc_reading.specs.Reader.{Read, ◌>>=◌, unexpected, next_is, the_si
 use Rattle.sc_reading.specs.declared.written.WrittenLiteral.{WrittenLiteral}
 use Rattle.sc_reading.specs.Syntax.{Side}
 use Rattle.sc_reading.specs.ClauseGrammar.{bracketed, arguments, side_within, side, right_of, equation, atom_of, is_equality, plain_literal, bracketed_or, negative_atom, negated, literal, without_first, clause}
+use Rattle.sc_reading.specs.Settings.{item_words, unsupported_items, list_words, unsupported_lists, flag_words, unsupported_flags, parameter_words, unsupported_parameters}
+use Rattle.sc_reading.specs.ProblemGrammar.{Item, Setting, Assignment, Listing, value_of, a_numeral, number, the_close, setting, assignment, ended_clause, next_is_word, listing, item_named, item, at_end, problem, at_proof_or_end, items}
 use Rattle.sc_reading.proofs.Shrinking.{left_of}
 
 pub record IsEnd (whole left : List Token) : Type 0 where
@@ -160,3 +162,73 @@ pub clause-end : LeavesEnd clause
 clause-end ts =
     either ts (next_is (is_word (codes "$F")) ts) (without_first ts) (separated Bar literal (length ts) ts)
     (without_first-end ts) (separated-end Bar literal (length ts) literal-end ts)
+
+-- ---- items
+
+a_numeral-end : LeavesEnd a_numeral
+a_numeral-end ts = in_turn ts (a_word ts) _ (a_word-end ts) (λ w e. either ts (list_all is_digit w.0.text) (Ok (value_of w.0.text, w.1)) (unexpected ts) e (all_left ts))
+
+number-end : LeavesEnd number
+number-end [] = a_numeral-end []
+number-end (Word at text ∷ ts) = a_numeral-end (Word at text ∷ ts)
+number-end (Refused at kind ∷ ts) = a_numeral-end (Refused at kind ∷ ts)
+number-end (Punctuation at Minus ∷ ts) = in_turn (Punctuation at Minus ∷ ts) (a_numeral ts) _ (behind a_numeral _ ts a_numeral-end (one_used _ ts)) (λ n e. e)
+number-end (Punctuation at Open ∷ ts) = a_numeral-end (Punctuation at Open ∷ ts)
+number-end (Punctuation at Close ∷ ts) = a_numeral-end (Punctuation at Close ∷ ts)
+number-end (Punctuation at Comma ∷ ts) = a_numeral-end (Punctuation at Comma ∷ ts)
+number-end (Punctuation at Stop ∷ ts) = a_numeral-end (Punctuation at Stop ∷ ts)
+number-end (Punctuation at Bar ∷ ts) = a_numeral-end (Punctuation at Bar ∷ ts)
+number-end (Punctuation at Equal ∷ ts) = a_numeral-end (Punctuation at Equal ∷ ts)
+number-end (Punctuation at Unequal ∷ ts) = a_numeral-end (Punctuation at Unequal ∷ ts)
+number-end (Punctuation at Colon ∷ ts) = a_numeral-end (Punctuation at Colon ∷ ts)
+
+the_close-end : LeavesEnd the_close
+the_close-end ts = in_turn ts (the_sign Close ts) _ (the_sign-end Close ts) (λ c e. behind (the_sign Stop) ts c.1 (the_sign-end Stop) e)
+
+setting-end : (positive : Bool) → LeavesEnd (setting positive)
+setting-end positive ts =
+    in_turn ts (the_sign Open ts) _ (the_sign-end Open ts) (λ o e.
+    in_turn ts (a_listed_name flag_words unsupported_flags o.1) _ (behind (a_listed_name flag_words unsupported_flags) ts o.1 (a_listed_name-end flag_words unsupported_flags) e) (λ n e'.
+    in_turn ts (the_close n.1) _ (behind the_close ts n.1 the_close-end e') (λ c e''. e'')))
+
+assignment-end : LeavesEnd assignment
+assignment-end ts =
+    in_turn ts (the_sign Open ts) _ (the_sign-end Open ts) (λ o e.
+    in_turn ts (a_listed_name parameter_words unsupported_parameters o.1) _ (behind (a_listed_name parameter_words unsupported_parameters) ts o.1 (a_listed_name-end parameter_words unsupported_parameters) e) (λ n e'.
+    in_turn ts (the_sign Comma n.1) _ (behind (the_sign Comma) ts n.1 (the_sign-end Comma) e') (λ c e''.
+    in_turn ts (number c.1) _ (behind number ts c.1 number-end e'') (λ v e'''.
+    in_turn ts (the_close v.1) _ (behind the_close ts v.1 the_close-end e''') (λ z e''''. e'''')))))
+
+ended_clause-end : LeavesEnd ended_clause
+ended_clause-end ts =
+    in_turn ts (clause ts) _ (clause-end ts) (λ c e.
+    in_turn ts (the_sign Stop c.1) _ (behind (the_sign Stop) ts c.1 (the_sign-end Stop) e) (λ s e'. e'))
+
+listing-end : LeavesEnd listing
+listing-end ts =
+    in_turn ts (the_sign Open ts) _ (the_sign-end Open ts) (λ o e.
+    in_turn ts (a_listed_name list_words unsupported_lists o.1) _ (behind (a_listed_name list_words unsupported_lists) ts o.1 (a_listed_name-end list_words unsupported_lists) e) (λ n e'.
+    in_turn ts (the_close n.1) _ (behind the_close ts n.1 the_close-end e') (λ b e''.
+    in_turn ts (repeated (next_is_word (codes "end_of_list")) ended_clause (length b.1) b.1) _
+    (behind (repeated (next_is_word (codes "end_of_list")) ended_clause (length b.1)) ts b.1 (repeated-end (next_is_word (codes "end_of_list")) ended_clause (length b.1) ended_clause-end) e'') (λ cs e'''.
+    in_turn ts (the_word (codes "end_of_list") cs.1) _ (behind (the_word (codes "end_of_list")) ts cs.1 (the_word-end (codes "end_of_list")) e''') (λ w e''''.
+    in_turn ts (the_sign Stop w.1) _ (behind (the_sign Stop) ts w.1 (the_sign-end Stop) e'''') (λ s e'''''. e'''''))))))
+
+item_named-end : (name : List ℕ) → LeavesEnd (item_named name)
+item_named-end name ts =
+    let third = either ts (same_text name (codes "assign")) (assignment ts) (listing ts) (assignment-end ts) (listing-end ts) in
+    let second = either ts (same_text name (codes "clear")) (setting false ts) (elim (same_text name (codes "assign")) [ true ↦ assignment ts | false ↦ listing ts ]) (setting-end false ts) third in
+    either ts (same_text name (codes "set")) (setting true ts) (elim (same_text name (codes "clear")) [ true ↦ setting false ts | false ↦ elim (same_text name (codes "assign")) [ true ↦ assignment ts | false ↦ listing ts ] ]) (setting-end true ts) second
+
+item-end : LeavesEnd item
+item-end ts =
+    in_turn ts (a_listed_name item_words unsupported_items ts) _ (a_listed_name-end item_words unsupported_items ts) (λ n e.
+    behind (item_named n.0.text) ts n.1 (item_named-end n.0.text) e)
+
+-- ---- problems
+
+pub problem-end : LeavesEnd problem
+problem-end ts = repeated-end at_end item (length ts) item-end ts
+
+pub items-end : LeavesEnd items
+items-end ts = repeated-end at_proof_or_end item (length ts) item-end ts

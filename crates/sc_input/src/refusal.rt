@@ -1,5 +1,8 @@
 //! Why an input isn't read.
 
+ghost use Rattle.std.specs.Prelude.{◌≡◌};
+ghost use Rattle.sc_input.specs.declared.refusal.InputError.TheVariants.{OutOfMemory};
+
 use sc_reading::Place;
 use sc_term::OutOfMemory;
 use thiserror::Error;
@@ -15,7 +18,7 @@ pub enum InputError {
 }
 
 impl From<OutOfMemory> for InputError {
-    ghost from_gives = { λ _ e. e ≡ InputError.OutOfMemory };
+    ghost from_gives = { λ _ e. e ≡ OutOfMemory };
 
     fn from(_: OutOfMemory) -> InputError {
         InputError::OutOfMemory
