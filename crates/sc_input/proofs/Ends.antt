@@ -13,7 +13,7 @@ use Rattle.sc_reading.specs.declared.written.WrittenLiteral.{WrittenLiteral}
 use Rattle.sc_reading.specs.Syntax.{Side}
 use Rattle.sc_reading.specs.ClauseGrammar.{bracketed, arguments, side_within, side, right_of, equation, atom_of, is_equality, plain_literal, bracketed_or, negative_atom, negated, literal, without_first, clause}
 use Rattle.sc_reading.specs.Settings.{item_words, unsupported_items, list_words, unsupported_lists, flag_words, unsupported_flags, parameter_words, unsupported_parameters}
-use Rattle.sc_reading.specs.ProblemGrammar.{Item, Setting, Assignment, Listing, value_of, a_numeral, number, the_close, setting, assignment, ended_clause, next_is_word, listing, item_named, item, at_end, problem, at_proof_or_end, items}
+use Rattle.sc_reading.specs.ProblemGrammar.{value_of, a_numeral, number, the_close, setting, assignment, ended_clause, next_is_word, listing, item_named, item, at_end, problem, at_proof_or_end, items}
 use Rattle.sc_reading.proofs.Shrinking.{left_of}
 
 pub record IsEnd (whole left : List Token) : Type 0 where

@@ -8,15 +8,13 @@ use Rattle.sc_reading.specs.Reader.{Read}
 use Rattle.sc_reading.specs.ProblemGrammar.{Item}
 use Rattle.sc_reading.specs.ProblemLimits.{problem_bounds, problem_fault_at}
 use Rattle.sc_reading.specs.Faults.{place, place_of, passed_behind, first_passed, judged}
-use Rattle.sc_reading.specs.Reading.{problem_tokens}
 use Rattle.sc_reading.proofs.Prefix.{Good}
 use Rattle.sc_reading.proofs.PrefixOfProblems.{good_problem, good_items}
 use Rattle.sc_reading.proofs.TwoPasses.{on_front, two_passes}
 use Rattle.sc_scan.specs.Told.{failure_of}
 use Rattle.sc_grammar.specs.Items.{with_clipped, clipped_items}
-use Rattle.sc_input.specs.declared.refusal.InputError.{InputError}
-use Rattle.sc_input.specs.Answer.{production, first_byte, read_at, fails_at, answer, told, judged_at, Tells}
-use Rattle.sc_input.proofs.Ends.{IsEnd, Leaves, LeavesEnd, problem-end, items-end}
+use Rattle.sc_input.specs.Answer.{production, first_byte, read_at, fails_at, answer, told}
+use Rattle.sc_input.proofs.Ends.{Leaves, LeavesEnd, problem-end, items-end}
 
 production-end : (before_section : Bool) → LeavesEnd (production before_section)
 production-end true = items-end

@@ -1,5 +1,5 @@
 -- The laws of this crate as its functions use them.
-use Rattle.std.proofs.Common.{◌≡◌, ◌∙◌, sym, ap, subst, ℕ, ◌+◌, ◌-◌, ◌<◌, ◌≤◌, Bool, true, false, List, length, take, drop, Some, None, Result, Ok, Err}
+use Rattle.std.proofs.Common.{◌≡◌, ◌∙◌, sym, ap, subst, ℕ, ◌+◌, ◌-◌, ◌<◌, Bool, true, false, List, length, take, drop, Some, None, Result, Ok, Err}
 use Rattle.sc_reading.specs.declared.fault.InputKind.{InputKind}
 use Rattle.sc_reading.specs.declared.fault.Place.{Place}
 use Rattle.sc_reading.specs.declared.token.Token.{Token}
@@ -51,6 +51,9 @@ pub items_are : (bytes : List ℕ) (is : List Item) (at : ℕ) (p : Stated) → 
 items_are bytes is at p e h = (items_stated bytes is at e).meant ∙ sym (λ j. Ok (record { problem = h j; rest = at }))
 
 pub ruleset up_to = (on_ok, on_failure, few_left)
+
 pub ruleset within = (on_unlimited, on_limited)
+
 pub ruleset problems = (problem_keeps, problem_is, problem_refused)
+
 pub ruleset sections = (items_keep, items_are, items_refused)

@@ -8,10 +8,8 @@
 //! Time and memory are in proportion to the bytes.
 #![tactic(auto)]
 
-
 mod read;
 mod refusal;
-
 
 pub use read::{Items, read_items, read_problem};
 pub use refusal::InputError;

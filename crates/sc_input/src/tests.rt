@@ -27,7 +27,10 @@ fn texts_are_read_or_refused_where_they_go_wrong(rt: HostRuntime) -> Result<(), 
         (b"list(sos).\np(\xe9", Want::At(13, InputKind::NotText)),
         (b"% caf\xe9\nset(binary_res).", Want::Clauses(0)),
         (b"list(foo).", Want::At(5, InputKind::UnknownName)),
-        (b"assign(max_weight,0).", Want::At(18, InputKind::OutOfRange)),
+        (
+            b"assign(max_weight,0).",
+            Want::At(18, InputKind::OutOfRange),
+        ),
         (
             b"list(demodulators).\nx=a.",
             Want::At(20, InputKind::BadDemodulator),
@@ -37,7 +40,10 @@ fn texts_are_read_or_refused_where_they_go_wrong(rt: HostRuntime) -> Result<(), 
             b"list(sos).\np.\nend_of_list.\nproof.",
             Want::At(27, InputKind::UnknownName),
         ),
-        (b"foo. assign(max_weight,0).", Want::At(0, InputKind::UnknownName)),
+        (
+            b"foo. assign(max_weight,0).",
+            Want::At(0, InputKind::UnknownName),
+        ),
     ];
     for (bytes, want) in rows {
         assert_eq!(rt; read(alloc, bytes), Some(want));
