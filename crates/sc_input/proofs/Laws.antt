@@ -1,0 +1,59 @@
+-- The laws of this crate as its functions use them.
+use Rattle.std.proofs.Common.{◌≡◌, ◌∙◌, sym, ap, subst, ℕ, ◌+◌, ◌-◌, ◌<◌, Bool, true, false, List, length, take, drop, Some, None, Result, Ok, Err}
+use Rattle.sc_reading.specs.declared.fault.InputKind.{InputKind}
+use Rattle.sc_reading.specs.declared.fault.Place.{Place}
+use Rattle.sc_reading.specs.declared.token.Token.{Token}
+use Rattle.sc_reading.specs.Reader.{Read}
+use Rattle.sc_reading.specs.ProblemGrammar.{Item}
+use Rattle.sc_reading.specs.ProblemLimits.{problem_bounds, problem_fault_at}
+use Rattle.sc_reading.specs.Faults.{first_passed, judged}
+use Rattle.sc_reading.specs.Problem.{Stated, stated}
+use Rattle.sc_reading.specs.Reading.{problem_of, items_of}
+use Rattle.sc_reading.specs.WellFormed.{IsProblem}
+use Rattle.sc_scan.specs.Told.{failure_of}
+use Rattle.sc_grammar.specs.Items.{clipped_items}
+use Rattle.sc_input.specs.declared.refusal.InputError.{InputError}
+use Rattle.sc_input.specs.Refusal.{Refuses}
+use Rattle.sc_input.specs.Answer.{production, first_byte, read_at, fails_at, answer, told, judged_at, Tells}
+use Rattle.sc_input.proofs.Judging.{few_left, answer_fails, judged_unlimited, judged_limited}
+use Rattle.sc_input.proofs.Stating.{problem_stated, items_stated, problem_refused, items_refused}
+
+pub on_ok : {X : Type 0} (view : X → List Item × ℕ) (res : Result X InputError) (behind : Result ℕ Place) (r : Read (List Item)) (is : List Item) (left : List Token)
+    → r ≡ Ok (is, left) → Tells view res (read_at is (first_byte behind left)) → Tells view res (answer behind r)
+on_ok view res behind r is left e h = subst (Tells view res) (sym (ap (answer behind) e)) h
+
+pub on_failure : (err : InputError) (behind : Result ℕ Place) (before_section : Bool) (ts : List Token) (n : ℕ) (kind : InputKind)
+    → failure_of (clipped_items (production before_section ts)) ≡ Some (n, kind) → Refuses err (fails_at kind (first_byte behind (drop (length ts - n) ts)))
+    → Refuses err (answer behind (clipped_items (production before_section ts)))
+on_failure err behind before_section ts n kind e h = subst (Refuses err) (sym (answer_fails before_section ts n kind behind e)) h
+
+pub on_unlimited : {X : Type 0} (view : X → List Item × ℕ) (res : Result X InputError) (before_section : Bool) (end : ℕ) (ts : List Token)
+    → first_passed (problem_fault_at problem_bounds) ts ≡ None → Tells view res (answer (Ok end) (clipped_items (production before_section ts)))
+    → Tells view res (told end (judged (problem_fault_at problem_bounds) end ts (production before_section ts)))
+on_unlimited view res before_section end ts e h = subst (Tells view res) (sym (judged_unlimited before_section end ts e)) h
+
+pub on_limited : {X : Type 0} (view : X → List Item × ℕ) (res : Result X InputError) (before_section : Bool) (end : ℕ) (ts : List Token) (k : ℕ) (p : Place) → k < length ts
+    → first_passed (problem_fault_at problem_bounds) (take k ts) ≡ None → first_passed (problem_fault_at problem_bounds) (take (k + 1) ts) ≡ Some p
+    → Tells view res (answer (Err p) (clipped_items (production before_section (take (k + 1) ts))))
+    → Tells view res (told end (judged (problem_fault_at problem_bounds) end ts (production before_section ts)))
+on_limited view res before_section end ts k p lt e e' h = subst (Tells view res) (sym (judged_limited before_section end ts k p lt e e')) h
+
+pub problem_keeps : (bytes : List ℕ) (is : List Item) (at : ℕ) → judged_at false bytes ≡ Ok (is, at) → IsProblem (stated is)
+problem_keeps bytes is at e = (problem_stated bytes is at e).keeps
+
+pub problem_is : (bytes : List ℕ) (is : List Item) (at : ℕ) (p : Stated) → judged_at false bytes ≡ Ok (is, at) → p ≡ stated is → problem_of bytes ≡ Ok p
+problem_is bytes is at p e h = (problem_stated bytes is at e).meant ∙ sym (ap Ok h)
+
+pub items_keep : (bytes : List ℕ) (is : List Item) (at : ℕ) → judged_at true bytes ≡ Ok (is, at) → IsProblem (stated is)
+items_keep bytes is at e = (items_stated bytes is at e).keeps
+
+pub items_are : (bytes : List ℕ) (is : List Item) (at : ℕ) (p : Stated) → judged_at true bytes ≡ Ok (is, at) → p ≡ stated is → items_of bytes ≡ Ok (record { problem = p; rest = at })
+items_are bytes is at p e h = (items_stated bytes is at e).meant ∙ sym (λ j. Ok (record { problem = h j; rest = at }))
+
+pub ruleset up_to = (on_ok, on_failure, few_left)
+
+pub ruleset within = (on_unlimited, on_limited)
+
+pub ruleset problems = (problem_keeps, problem_is, problem_refused)
+
+pub ruleset sections = (items_keep, items_are, items_refused)

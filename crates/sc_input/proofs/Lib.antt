@@ -1,0 +1,5 @@
+pub mod Ends
+pub mod Clipped
+pub mod Judging
+pub mod Stating
+pub mod Laws

@@ -1,0 +1,174 @@
+//! The readers.
+
+ghost use Rattle.std.specs.Prelude.{◌≡◌, ◌≤◌, ◌-◌, length, drop, Ok, IfOk, IfErr};
+ghost use Rattle.sc_reading.specs.Token.{at_of};
+ghost use Rattle.sc_reading.specs.Faults.{judged};
+ghost use Rattle.sc_reading.specs.ProblemLimits.{problem_bounds, problem_fault_at};
+ghost use Rattle.sc_reading.specs.Reading.{problem_of, items_of};
+ghost use Rattle.sc_scan.specs.Told.{Gives};
+ghost use Rattle.sc_grammar.specs.Items as grammar;
+ghost use Rattle.sc_input.specs.Refusal.{Refuses};
+ghost use Rattle.sc_input.specs.Answer as spec;
+ghost use Rattle.sc_input.specs.Answer.{Tells};
+
+use crate::refusal::InputError;
+use sc_grammar::Item;
+use sc_limits::first_limit;
+use sc_problem::{Problem, problem_from};
+use sc_reading::{InputKind, Place, Token};
+use sc_scan::{Stop, scan_problem};
+use sqlite_items::Items as List;
+use std::alloc::Global;
+
+/// What may stand before a section of a proof or a run.
+#[derive(Drop)]
+pub struct Items {
+    pub problem: Problem,
+    /// The byte of the word `proof` or `run` behind the problem, or the number of bytes where none follows.
+    pub rest: u64,
+}
+
+fn at_of(token: &Token) -> u64
+    ensures { result ≡ at_of token.now }
+{
+    match token {
+        Token::Word(at, _) => *at,
+        Token::Punctuation(at, _) => *at,
+        Token::Refused(at, _) => *at,
+    }
+}
+
+/// Where the first of the tokens left begins; where none is left, what stands behind them.
+fn first_byte(behind: Result<u64, Place>, tokens: &[Token]) -> Result<u64, Place>
+    ensures { result ≡ spec.first_byte behind tokens.now }
+{
+    match tokens {
+        [first, ..] => Ok(at_of(first)),
+        [] => behind,
+    }
+}
+
+fn items_at(items: List<Item>, at: Result<u64, Place>) -> Result<(List<Item>, u64), InputError>
+    ensures { Tells (λ x. (grammar.items_of x.0, x.1)) result (spec.read_at (grammar.items_of items) at) }
+{
+    match at {
+        Ok(at) => Ok((items, at)),
+        Err(place) => Err(InputError::Refused(place)),
+    }
+}
+
+fn fault_at(kind: InputKind, at: Result<u64, Place>) -> InputError
+    ensures { Refuses result (spec.fails_at kind at) }
+{
+    match at {
+        Ok(at) => InputError::Refused(Place { at, kind }),
+        Err(place) => InputError::Refused(place),
+    }
+}
+
+/// The last tokens, so many of them.
+fn last_tokens(tokens: &[Token], count: usize) -> &[Token]
+    requires { count ≤ length tokens.now }
+    ensures { result.now ≡ drop (length tokens.now - count) tokens.now }
+{
+    let (_, last) = tokens.split_at(tokens.len() - count);
+    last
+}
+
+/// The items of a problem, which a section of a proof or a run may follow or not.
+fn production(
+    alloc: Global,
+    before_section: bool,
+    tokens: &[Token],
+) -> Result<(List<Item>, &[Token]), Stop>
+    ensures { Gives (λ x. (grammar.items_of x.0, x.1.now)) result (grammar.clipped_items (spec.production before_section tokens.now)) }
+{
+    if before_section {
+        sc_grammar::read_items(alloc, tokens)
+    } else {
+        sc_grammar::read_problem(alloc, tokens)
+    }
+}
+
+/// What is read of tokens that pass no limit, or only with the last of them. Behind them stands the byte at which the
+/// text ends, or that limit: it is the answer where they are read to their end.
+#[tactic(auto, using(crate::proofs::Laws::up_to))]
+fn read_up_to(
+    alloc: Global,
+    before_section: bool,
+    behind: Result<u64, Place>,
+    tokens: &[Token],
+) -> Result<(List<Item>, u64), InputError>
+    ensures { Tells (λ x. (grammar.items_of x.0, x.1)) result (spec.answer behind (grammar.clipped_items (spec.production before_section tokens.now))) }
+{
+    match production(alloc, before_section, tokens) {
+        Ok((items, left)) => {
+            let at = first_byte(behind, left);
+            items_at(items, at)
+        }
+        Err(Stop::At(left, kind)) => {
+            let at = first_byte(behind, last_tokens(tokens, left));
+            Err(fault_at(kind, at))
+        }
+        Err(Stop::Memory) => Err(InputError::OutOfMemory),
+    }
+}
+
+/// What is read of all tokens: those behind the first that passes a limit are never looked at.
+#[tactic(auto, using(crate::proofs::Laws::within))]
+fn read_tokens(
+    alloc: Global,
+    before_section: bool,
+    end: u64,
+    tokens: &[Token],
+) -> Result<(List<Item>, u64), InputError>
+    ensures { Tells (λ x. (grammar.items_of x.0, x.1)) result (spec.told end (judged (problem_fault_at problem_bounds) end tokens.now (spec.production before_section tokens.now))) }
+{
+    match first_limit(alloc, tokens)? {
+        None => read_up_to(alloc, before_section, Ok(end), tokens),
+        Some(passed) => {
+            let (front, _) = tokens.split_at(passed.token + 1);
+            read_up_to(alloc, before_section, Err(passed.place), front)
+        }
+    }
+}
+
+/// What is read of bytes: the items, and the byte behind them.
+fn read_bytes(
+    alloc: Global,
+    before_section: bool,
+    bytes: &[u8],
+) -> Result<(List<Item>, u64), InputError>
+    ensures { Tells (λ x. (grammar.items_of x.0, x.1)) result (spec.judged_at before_section bytes.now) }
+{
+    let tokens = scan_problem(alloc, bytes)?;
+    read_tokens(alloc, before_section, bytes.len() as u64, tokens.as_slice())
+}
+
+/// The problem that the bytes spell, as `problem_of` defines it. Time and memory are in proportion to the bytes.
+///
+/// # Errors
+/// The first fault: the byte at which the bytes are refused, and why; or want of memory.
+#[tactic(auto, using(crate::proofs::Laws::problems))]
+pub fn read_problem(alloc: Global, bytes: &[u8]) -> Result<Problem, InputError>
+    ensures ok { IfOk result (λ p. problem_of bytes.now ≡ Ok p) }
+    ensures refused { IfErr result (λ e. Refuses e (problem_of bytes.now)) }
+{
+    let (items, _) = read_bytes(alloc, false, bytes)?;
+    Ok(problem_from(alloc, items.as_slice())?)
+}
+
+/// The problem up to a word `proof` or `run` in an item's place, and the byte of that word, or the number of bytes
+/// where none follows, as `items_of` defines it. Time and memory are in proportion to the bytes.
+///
+/// # Errors
+/// The first fault before that word: the byte at which the bytes are refused, and why; or want of memory.
+#[tactic(auto, using(crate::proofs::Laws::sections))]
+pub fn read_items(alloc: Global, bytes: &[u8]) -> Result<Items, InputError>
+    ensures ok { IfOk result (λ r. items_of bytes.now ≡ Ok (record { problem = r.problem; rest = r.rest })) }
+    ensures refused { IfErr result (λ e. Refuses e (items_of bytes.now)) }
+{
+    let (items, rest) = read_bytes(alloc, true, bytes)?;
+    let problem = problem_from(alloc, items.as_slice())?;
+    Ok(Items { problem, rest })
+}
