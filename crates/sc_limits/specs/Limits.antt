@@ -8,10 +8,11 @@ use Rattle.sc_reading.specs.Faults.{passed}
 use Rattle.sc_reading.specs.ClauseLimits.{when, first_at, arity_told, weight_told, depth_told}
 use Rattle.sc_reading.specs.ProblemLimits.{problem_bounds}
 
--- of a clause so far, behind so many clauses: the first limit that it passes
+-- the first token of a clause too many, behind so many clauses
 abbrev pub clauses_told_behind : ℕ → List Token → Option ℕ
 clauses_told_behind clauses tokens = when (nat_le 10000 clauses && not (closes tokens)) (first_at tokens)
 
+-- the first limit that a clause so far passes, behind so many clauses
 abbrev pub fault_in_clause : ℕ → List Token → Option Place
 fault_in_clause clauses tokens =
     passed (

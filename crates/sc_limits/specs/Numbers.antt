@@ -12,9 +12,11 @@ use Rattle.sc_reading.specs.ProblemLimits.{is_outside, range_of}
 use Rattle.sc_reading.specs.Settings as settings
 use Rattle.sc_limits.specs.declared.range.Range.{Range}
 
+-- a range, as the definitions of reading have it
 abbrev pub as_range : Range → settings.Range
 as_range r = record { low = r.low; high = r.high }
 
+-- the number that the first word writes
 abbrev pub capped_numeral : List Token → Option ℕ
 capped_numeral (Word at text ∷ tokens) = if list_all is_digit text then Some (min (digits_value 10 text) 10000000000) else None
 capped_numeral tokens = None

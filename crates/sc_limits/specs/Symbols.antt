@@ -11,9 +11,11 @@ use Rattle.sc_limits.specs.declared.symbols.WrittenSymbol.{WrittenSymbol}
 abbrev pub same_written : WrittenSymbol → WrittenSymbol → Bool
 same_written = eq_of_both (on (λ s. s.name) (pointwise ◌==◌)) (eq_of_both (on (λ s. s.arity) ◌==◌) (on (λ s. role_number s.role) ◌==◌))
 
+-- a symbol, as it is written
 abbrev pub as_written : Symbol → WrittenSymbol
 as_written s = record { name = s.name; arity = s.arity; role = s.role }
 
+-- the same symbol, wherever it stands
 abbrev pub same_found : Found → Found → Bool
 same_found f g = same_symbol f.symbol g.symbol
 
