@@ -7,3 +7,4 @@ pub mod JoinLaws
 pub mod WeightLaws
 pub mod SettingLaws
 pub mod ListingLaws
+pub mod Examples

@@ -25,3 +25,6 @@ pub use problem::Problem;
 pub use settings::{flags_from, params_from};
 pub use stated::problem_from;
 pub use terms::{Numbering, literal_from, terms_from};
+
+#[cfg(test)]
+mod tests;
