@@ -91,7 +91,6 @@ module _ (fault_at : List Token → Option Place) (before_section : Bool) (end :
   limited_at : (init : List Token) (t : Token) (more : List Token) (p : Place) → first_passed fault_at init ≡ None → first_passed fault_at (init ++ t ∷ []) ≡ Some p
       → whole_of ((init ++ t ∷ []) ++ more) ≡ answer (Err p) (clipped_items (production before_section (init ++ t ∷ [])))
   limited_at init t more p e e' =
-      let front = init ++ t ∷ [] in
       let good = good_production before_section (length (init ++ t ∷ [])) (length ((init ++ t ∷ []) ++ more)) in
       ap (told end) (two_passes fault_at end init t more (production before_section (init ++ t ∷ [])) (production before_section ((init ++ t ∷ []) ++ more)) p e e' (good.agrees (init ++ t ∷ []) more (omega arith) (omega arith)) (good.short (init ++ t ∷ [])))
       ∙ told_on_front end more p (production before_section (init ++ t ∷ []))

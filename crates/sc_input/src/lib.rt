@@ -10,11 +10,10 @@
 
 mod read;
 mod refusal;
+#[cfg(test)]
+mod tests;
 
 pub use read::{Items, read_items, read_problem};
 pub use refusal::InputError;
 pub use sc_problem::Problem;
 pub use sc_reading::{Flags, Home, InputKind, Params, Place};
-
-#[cfg(test)]
-mod tests;
