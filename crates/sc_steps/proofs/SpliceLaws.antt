@@ -120,10 +120,10 @@ named_from inputs derived n m k d fine at input =
 
 -- ---- rising numbers
 
-head_least : (n : ℕ) (ns : List ℕ) → AllPairs (λ a b. a < b) (n ∷ ns) → (m : ℕ) → Contains ns m → n < m
+pub head_least : (n : ℕ) (ns : List ℕ) → AllPairs (λ a b. a < b) (n ∷ ns) → (m : ℕ) → Contains ns m → n < m
 head_least n ns rising m at = subst (λ x. n < x) at.2 (rising zero (suc at.0) m (omega arith) (omega (arith, at.1)))
 
-tail_rises : (n : ℕ) (ns : List ℕ) → AllPairs (λ a b. a < b) (n ∷ ns) → AllPairs (λ a b. a < b) ns
+pub tail_rises : (n : ℕ) (ns : List ℕ) → AllPairs (λ a b. a < b) (n ∷ ns) → AllPairs (λ a b. a < b) ns
 tail_rises n ns rising i j d h k = rising (suc i) (suc j) d (omega arith) (omega arith)
 
 pub one_more_in : (n : ℕ) (ns : List ℕ) (m : ℕ) → Contains ns m → Contains (n ∷ ns) m
