@@ -7,3 +7,4 @@ pub mod Unbound
 pub mod Unifiers
 pub mod Rows
 pub mod Applying
+pub mod MatchingLaws

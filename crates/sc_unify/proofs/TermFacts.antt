@@ -19,7 +19,7 @@ all_so P Q h (x ∷ xs) k = (h x k.0, all_so P Q h xs k.1)
 pub compose : (u s : Substitution) (t : Term) → term_under u (term_under s t) ≡ term_under (λ n. term_under u (s n)) t
 compose u s t = (term_laws t).compose u s
 
-joined_append : (xs ys : List (List ℕ)) → joined (xs ++ ys) ≡ joined xs ++ joined ys
+pub joined_append : (xs ys : List (List ℕ)) → joined (xs ++ ys) ≡ joined xs ++ joined ys
 joined_append [] ys = refl
 joined_append (x ∷ xs) ys = ap (λ l. x ++ l) (joined_append xs ys) ∙ sym (append_assoc x (joined xs) (joined ys))
 

@@ -14,3 +14,6 @@ mod write;
 pub use matching::match_onto;
 pub use substitution::Subst;
 pub use unifier::{unify, unify_all};
+
+#[cfg(test)]
+mod tests;

@@ -1,7 +1,8 @@
 //! Matching: terms for the variables of one atom that make it another, whose variables stay as they are.
 
 ghost use Rattle.std.specs.Prelude.{◌≡◌, ◌∷◌, [], map, IfOk, MatchOption};
-ghost use Rattle.std.specs.Option.{option_copied};
+ghost use Rattle.std.specs.Option.{option_copied, unwrap_or};
+ghost use Rattle.sc_data.specs.declared.Term.{Var};
 ghost use Rattle.sc_data.specs.Term.{joined, term_under, term_variables};
 ghost use Rattle.sc_unify.specs.Bindings.{bindings, lookup};
 ghost use Rattle.sc_unify.specs.Matching.{Matches, filled, IsMatch, HasNoMatch};
@@ -75,16 +76,23 @@ fn term_for<'a>(bound: &[Bound<'a>], variable: u64) -> Option<&'a Term>
     None
 }
 
+/// The term that the variable was given, or variable 0.
+fn filling(alloc: Global, bound: &[Bound], variable: u64) -> Mem<Term>
+    ensures { IfOk result (λ t. t ≡ unwrap_or (lookup (bindings bound.now) variable) (Var 0)) }
+{
+    match term_for(bound, variable) {
+        Some(term) => copy_term(alloc, term),
+        None => Ok(Term::Var(0)),
+    }
+}
+
 /// The terms of the variables below the width, variable 0 for one that was given none.
 fn fill(alloc: Global, bound: &[Bound], width: u64) -> Mem<Items<Term>>
     ensures { IfOk result (λ terms. terms ≡ filled (bindings bound.now) width) }
 {
     let mut terms = Items::new(alloc);
     for n in 0..width {
-        terms.push(match term_for(bound, n) {
-            Some(term) => copy_term(alloc, term)?,
-            None => Term::Var(0),
-        })?;
+        terms.push(filling(alloc, bound, n)?)?;
     }
     Ok(terms)
 }
