@@ -1,8 +1,9 @@
 //! What the program answers: each answer has a status and a text.
 
 ghost use Rattle.std.specs.Prelude.{◌≡◌, ⊤, IfOk, IfSome, string_bytes};
-ghost use Rattle.sc_top.specs.Answers.{status_of, text_of};
+ghost use Rattle.sc_top.specs.Answers.{status_of, text_of, kind_text};
 
+use sc_input::{InputKind, Place};
 use sc_term::Mem;
 use std::alloc::Global;
 
@@ -13,7 +14,10 @@ pub enum Answer {
     ProofChecked { lines: u32 },
     /// This line, from 1, is the first at fault.
     NotAProof { line: u32 },
-    InputRefused,
+    /// The problem is refused at this byte, for this kind of fault; or there are too many bytes.
+    InputRefused(Place),
+    /// What stands behind the problem isn't a proof section of the form.
+    SectionRefused,
     WordsRefused,
     ReadFault,
     OutOfMemory,
@@ -23,6 +27,24 @@ pub const MEMORY_TEXT: &str = "out of memory\n";
 
 pub const WORDS_TEXT: &str = "words refused\n";
 
+fn kind_text(kind: InputKind) -> &'static str
+    ensures { result.now ≡ kind_text kind }
+{
+    match kind {
+        InputKind::NotText => "not text",
+        InputKind::Unexpected => "unexpected",
+        InputKind::Truncated => "truncated",
+        InputKind::UnknownName => "unknown name",
+        InputKind::Unsupported => "unsupported",
+        InputKind::OutOfRange => "out of range",
+        InputKind::TooMany => "too many",
+        InputKind::TooHeavy => "too heavy",
+        InputKind::TooDeep => "too deep",
+        InputKind::BadDemodulator => "bad demodulator",
+        InputKind::TooLong => "too long",
+    }
+}
+
 impl Answer {
     /// The exit status.
     pub fn status(self) -> u8
@@ -31,7 +53,7 @@ impl Answer {
         match self {
             Answer::ProofChecked { .. } => 0,
             Answer::NotAProof { .. } => 1,
-            Answer::InputRefused => 3,
+            Answer::InputRefused(_) | Answer::SectionRefused => 3,
             Answer::WordsRefused => 4,
             Answer::ReadFault => 5,
             Answer::OutOfMemory => 7,
@@ -43,8 +65,9 @@ impl Answer {
         ensures { IfSome result (λ text. text.now ≡ text_of self) }
     {
         match self {
-            Answer::ProofChecked { .. } | Answer::NotAProof { .. } => None,
-            Answer::InputRefused => Some("input refused\n"),
+            Answer::ProofChecked { .. } | Answer::NotAProof { .. } | Answer::InputRefused(_) =>
+                None,
+            Answer::SectionRefused => Some("input refused\n"),
             Answer::WordsRefused => Some(WORDS_TEXT),
             Answer::ReadFault => Some("read fault\n"),
             Answer::OutOfMemory => Some(MEMORY_TEXT),
@@ -58,7 +81,11 @@ impl Answer {
         Ok(match self {
             Answer::ProofChecked { lines } => format!(in alloc; "proof checked: {lines} lines\n")?,
             Answer::NotAProof { line } => format!(in alloc; "not a proof: line {line}\n")?,
-            Answer::InputRefused => format!(in alloc; "input refused\n")?,
+            Answer::InputRefused(Place { at, kind }) => {
+                let kind = kind_text(kind);
+                format!(in alloc; "input refused at byte {at}: {kind}\n")?
+            }
+            Answer::SectionRefused => format!(in alloc; "input refused\n")?,
             Answer::WordsRefused => format!(in alloc; "words refused\n")?,
             Answer::ReadFault => format!(in alloc; "read fault\n")?,
             Answer::OutOfMemory => format!(in alloc; "out of memory\n")?,

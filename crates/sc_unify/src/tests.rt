@@ -28,7 +28,13 @@ fn atom(alloc: Global, p: u32, x: Term) -> Mem<Literal> {
 }
 
 /// `p(x1) = p(f(x0,x0))`, `p(x2) = p(f(x1,x1))`, .., over the variables from `low`.
-fn chain(alloc: Global, low: u32, levels: u32, downwards: bool, pairs: &mut Items<Pair>) -> Mem<()> {
+fn chain(
+    alloc: Global,
+    low: u32,
+    levels: u32,
+    downwards: bool,
+    pairs: &mut Items<Pair>,
+) -> Mem<()> {
     for step in 0..levels {
         let n = if downwards { levels - 1 - step } else { step };
         let inner = apply2(alloc, 2, Term::Var(low + n), Term::Var(low + n))?;

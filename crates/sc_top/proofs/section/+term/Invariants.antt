@@ -1,5 +1,5 @@
 use Rattle.std.proofs.Common.{◌+◌, ◌*◌}
-use Rattle.sc_top.proofs.form.+term.Given as goal
+use Rattle.sc_top.proofs.section.+term.Given as goal
 
 abbrev pub decreases-read_arguments : goal.decreases-read_arguments
 decreases-read_arguments l = 2 * l.levels + 1
