@@ -1,1 +1,1 @@
-pub mod NoModelLaw
+pub mod AnswerLaws

@@ -1,6 +1,6 @@
 //! What the program answers: each answer has a status and a text.
 
-ghost use Rattle.std.specs.Prelude.{◌≡◌, ⊤, IfOk, IfSome, string_bytes};
+ghost use Rattle.std.specs.Prelude.{◌≡◌, ◌++◌, ⊤, IfOk, IfSome, codes, decimal, string_bytes};
 ghost use Rattle.sc_top.specs.Answers.{status_of, text_of, kind_text};
 
 use sc_input::{InputKind, Place};
@@ -45,6 +45,15 @@ fn kind_text(kind: InputKind) -> &'static str
     }
 }
 
+fn refused_text(alloc: Global, at: u64, kind: &str) -> Mem<String>
+    ensures { IfOk result (λ text. string_bytes text ≡ codes "input refused at byte " ++ decimal at ++ codes ": " ++ kind.now ++ codes "\n") }
+{
+    let mut text = format!(in alloc; "input refused at byte {at}: ")?;
+    text.push_str(kind)?;
+    text.push_str("\n")?;
+    Ok(text)
+}
+
 impl Answer {
     /// The exit status.
     pub fn status(self) -> u8
@@ -82,8 +91,7 @@ impl Answer {
             Answer::ProofChecked { lines } => format!(in alloc; "proof checked: {lines} lines\n")?,
             Answer::NotAProof { line } => format!(in alloc; "not a proof: line {line}\n")?,
             Answer::InputRefused(Place { at, kind }) => {
-                let kind = kind_text(kind);
-                format!(in alloc; "input refused at byte {at}: {kind}\n")?
+                refused_text(alloc, at, kind_text(kind))?
             }
             Answer::SectionRefused => format!(in alloc; "input refused\n")?,
             Answer::WordsRefused => format!(in alloc; "words refused\n")?,
