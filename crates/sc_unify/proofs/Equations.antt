@@ -51,8 +51,10 @@ cost-arguments bs l r xs ys h = omega (arith, left_cost-equated bs xs ys, cost-A
 -- ---- solutions
 
 pub solves-append : (u : Substitution) (ds es : List Equal) → Solves u (ds ++ es) ↔ (Solves u ds × Solves u es)
-solves-append u ds es = (all_split (λ (e : Equal). term_under u e.left ≡ term_under u e.right) ds es,
-  λ both. all_join (λ (e : Equal). term_under u e.left ≡ term_under u e.right) ds es both.0 both.1)
+solves-append u ds es = (
+  all_split (λ (e : Equal). term_under u e.left ≡ term_under u e.right) ds es,
+  λ both. all_join (λ (e : Equal). term_under u e.left ≡ term_under u e.right) ds es both.0 both.1,
+)
 
 pub solves-equated : (u : Substitution) (xs ys : List Term) → length xs ≡ length ys → (map (term_under u) xs ≡ map (term_under u) ys) ↔ Solves u (equated xs ys)
 solves-equated u [] [] same = (λ e. tt, λ h. refl)

@@ -140,7 +140,7 @@ in_argument v [] = tt
 in_argument v (x ∷ xs) = (
   λ o. list_any-append (nat_eq v) (term_variables x) (joined (map term_variables xs)) ∙ or_left (occurs_in v x) (list_any (nat_eq v) (joined (map term_variables xs))) o,
   all_so (λ y. occurs_in v y ≡ true → list_any (nat_eq v) (joined (map term_variables xs)) ≡ true) (λ y. occurs_in v y ≡ true → list_any (nat_eq v) (joined (map term_variables (x ∷ xs))) ≡ true)
-  (λ y k o. list_any-append (nat_eq v) (term_variables x) (joined (map term_variables xs)) ∙ or_right (occurs_in v x) (list_any (nat_eq v) (joined (map term_variables xs))) (k o)) xs (in_argument v xs),
+      (λ y k o. list_any-append (nat_eq v) (term_variables x) (joined (map term_variables xs)) ∙ or_right (occurs_in v x) (list_any (nat_eq v) (joined (map term_variables xs))) (k o)) xs (in_argument v xs),
 )
 
 unmapped : {X Y : Type 0} (P : Y → Type 0) (f : X → Y) (xs : List X) → AllByRecursion P (map f xs) → AllByRecursion (λ x. P (f x)) xs
@@ -157,7 +157,7 @@ taken_apart bs v start seen rest f xs h =
     let Inside : Term → Type 0 = λ t. occurs_in v (term_under (finished bs) t) ≡ true → occurs_in v (term_under (finished bs) start) ≡ true in
     let before = all_split Inside rest (App f xs ∷ []) h.inside in
     let whole : occurs_in v (term_under (finished bs) (App f xs)) ≡ list_any (nat_eq v) (joined (map term_variables (map (term_under (finished bs)) xs)))
-        = ap (occurs_in v) (under-App (finished bs) f xs) ∙ ap (list_any (nat_eq v)) (variables-App f (map (term_under (finished bs)) xs)) in
+    = ap (occurs_in v) (under-App (finished bs) f xs) ∙ ap (list_any (nat_eq v)) (variables-App f (map (term_under (finished bs)) xs)) in
     record {
       inside = all_join Inside rest xs before.0
           (all_so (λ x. occurs_in v (term_under (finished bs) x) ≡ true → list_any (nat_eq v) (joined (map term_variables (map (term_under (finished bs)) xs))) ≡ true) Inside
@@ -209,8 +209,10 @@ all_zip P Q R f (x ∷ xs) h k = (f x h.0 k.0, all_zip P Q R f xs h.1 k.1)
 
 among_itself : (ns : List ℕ) → AllByRecursion (λ n. is_among n ns ≡ true) ns
 among_itself [] = tt
-among_itself (n ∷ ns) = (or_left (nat_eq n n) (is_among n ns) (eq-eqb n n refl),
-  all_so (λ k. is_among k ns ≡ true) (λ k. is_among k (n ∷ ns) ≡ true) (λ k e. or_right (nat_eq n k) (is_among k ns) e) ns (among_itself ns))
+among_itself (n ∷ ns) = (
+  or_left (nat_eq n n) (is_among n ns) (eq-eqb n n refl),
+  all_so (λ k. is_among k ns ≡ true) (λ k. is_among k (n ∷ ns) ≡ true) (λ k e. or_right (nat_eq n k) (is_among k ns) e) ns (among_itself ns),
+)
 
 module _ (bs : List Binding) (is : AreSolved bs) (v : ℕ) (seen : List ℕ) where
   -- a bound variable was entered, and a free one is another

@@ -47,9 +47,9 @@ written-map bs is = λ i n. written-is bs is n i
 
 pub most_general : (es : List Equal) (bs : List Binding) → IsSolution es bs → IsMostGeneralSolution es (substitution (written bs))
 most_general es bs is = subst (IsMostGeneralSolution es) (sym (written-map bs is.solved)) (record {
-      solves = (is.same (finished bs)).1 is.solved.respected;
-      general = λ u h. (u, is.solved.general u ((is.same u).0 h));
-    })
+  solves = (is.same (finished bs)).1 is.solved.respected;
+  general = λ u h. (u, is.solved.general u ((is.same u).0 h));
+})
 
 pub unifier : (pairs : List Pair) (es : List Equal) (s : Substitution) → EquatesPairs pairs es → IsMostGeneralSolution es s → IsMostGeneralUnifier pairs s
 unifier pairs es s same is = record {
@@ -101,10 +101,10 @@ Equalled u p = AreEqualUnder u p.left p.right
 pub unifier-more : (u : Substitution) (pairs : List Pair) (i : ℕ) (p : Pair) → i < length pairs → p ≡ get_or pairs i p
     → IsUnifier (take (i + 1) pairs) u ↔ (IsUnifier (take i pairs) u × AreEqualUnder u p.left p.right)
 unifier-more u pairs i p less at = rw add-one (
-      λ h. let both = (split pairs i less).0 ((all-by_recursion (Equalled u) (take (suc i) pairs)).0 h) in
+  λ h. let both = (split pairs i less).0 ((all-by_recursion (Equalled u) (take (suc i) pairs)).0 h) in
       ((all-by_recursion (Equalled u) (take i pairs)).1 both.0, subst (Equalled u) (sym at) both.1),
-      λ h. (all-by_recursion (Equalled u) (take (suc i) pairs)).1 ((split pairs i less).1 ((all-by_recursion (Equalled u) (take i pairs)).0 h.0, subst (Equalled u) at h.1)),
-    )
+  λ h. (all-by_recursion (Equalled u) (take (suc i) pairs)).1 ((split pairs i less).1 ((all-by_recursion (Equalled u) (take i pairs)).0 h.0, subst (Equalled u) at h.1)),
+)
   where
     split : (qs : List Pair) (i : ℕ) → i < length qs → AllByRecursion (Equalled u) (take (suc i) qs) ↔ (AllByRecursion (Equalled u) (take i qs) × Equalled u (get_or qs i p))
     split [] i less = absurd (omega arith)

@@ -37,7 +37,11 @@ fn write_terms<'a>(alloc: Global, bound: &[Bound<'a>], terms: &'a [Term]) -> Mem
     Ok(made)
 }
 
-fn write_literals<'a>(alloc: Global, bound: &[Bound<'a>], literals: &'a [Literal]) -> Mem<Items<Literal>>
+fn write_literals<'a>(
+    alloc: Global,
+    bound: &[Bound<'a>],
+    literals: &'a [Literal],
+) -> Mem<Items<Literal>>
     requires { AreSolved (bindings bound.now) }
     ensures { IfOk result (λ r. r ≡ map (literal_under (finished (bindings bound.now))) literals.now) }
 {

@@ -1,4 +1,4 @@
-use Rattle.std.proofs.Common.{◌≡◌, ◌∙◌, ap, [], map}
+use Rattle.std.proofs.Common.{◌∙◌, ap, map}
 use Rattle.sc_data.specs.Clause.{variables}
 use Rattle.sc_data.specs.Substitution.{literal_under}
 use Rattle.sc_data.specs.JointInstance.{renumbering}

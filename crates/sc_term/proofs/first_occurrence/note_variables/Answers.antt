@@ -1,4 +1,4 @@
-use Rattle.std.proofs.Common.{◌≡◌, ◌∙◌, ap, map}
+use Rattle.std.proofs.Common.{◌∙◌, ap, map}
 use Rattle.sc_data.specs.Term.{joined, term_variables}
 use Rattle.sc_term.specs.Occurrence.{noted, literal_variables}
 use Rattle.sc_term.proofs.Occurrences.{noted-more}

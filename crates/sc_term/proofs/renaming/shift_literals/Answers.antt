@@ -1,4 +1,4 @@
-use Rattle.std.proofs.Common.{◌≡◌, ◌∙◌, sym, ap, ◌<◌, map, arith}
+use Rattle.std.proofs.Common.{ap, map, arith}
 use Rattle.sc_data.specs.Term.{largest, term_width}
 use Rattle.sc_data.specs.Clause.{literal_width}
 use Rattle.sc_term.proofs.Occurrences.{at-most-largest}

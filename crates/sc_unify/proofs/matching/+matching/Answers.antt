@@ -23,7 +23,7 @@ match_term-returns-else-ne t c =
 pub match_terms-returns-then-not-branch : goal.match_terms-returns-then-not-branch
 match_terms-returns-then-not-branch t c = λ s gives e.
     let told = subst (λ q. Matches q (bindings c.loop-i.bound.items) (bindings c.match_term.new.bound.items) (λ s. term_under s c.index-patterns-i.result ≡ c.index-targets-i.result)
-        (term_variables c.index-patterns-i.result)) c.if-not-branch.true c.in_ok-match_term.ensures in
+    (term_variables c.index-patterns-i.result)) c.if-not-branch.true c.in_ok-match_term.ensures in
     let here = row-at (term_under s) c.args.patterns.now c.args.targets.now c.loop-i.i c.index-patterns-i.result c.index-targets-i.result c.loop-i-test.true c.index-patterns-i.is c.index-targets-i.is e in
     told s ((c.loop-i.invariant.matched.same s).1 (gives, here.0)) here.1
 
@@ -34,9 +34,9 @@ match_terms-loop-i-preserved t c =
     let i = c.loop-i.i in
     let p = c.index-patterns-i.result in
     let told = subst (λ q. Matches q (bindings c.loop-i.bound.items) (bindings c.match_term.new.bound.items) (λ s. term_under s p ≡ c.index-targets-i.result) (term_variables p))
-        c.if-not-branch.false c.in_ok-match_term.ensures in
+    c.if-not-branch.false c.in_ok-match_term.ensures in
     let both = composed (bindings c.args.bound.now.items) (bindings c.loop-i.bound.items) (bindings c.match_term.new.bound.items)
-        (λ s. map (term_under s) (take i ps) ≡ take i ts) (λ s. term_under s p ≡ c.index-targets-i.result) (joined (map term_variables (take i ps))) (term_variables p) c.loop-i.invariant.matched told in
+    (λ s. map (term_under s) (take i ps) ≡ take i ts) (λ s. term_under s p ≡ c.index-targets-i.result) (joined (map term_variables (take i ps))) (term_variables p) c.loop-i.invariant.matched told in
     record {
       long = c.loop-i.invariant.long;
       matched = converted (bindings c.args.bound.now.items) (bindings c.match_term.new.bound.items)

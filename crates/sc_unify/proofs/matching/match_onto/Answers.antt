@@ -14,9 +14,9 @@ returns-then-not-branch c =
     let t = c.args.target.now in
     let bs = bindings c.match_terms.new.bound.items in
     let told = subst (λ q. Matches q (bindings c.new-bound.result.items) bs (λ s. map (term_under s) c.as_slice.result.now ≡ c.as_slice-2.result.now) (joined (map term_variables c.as_slice.result.now)))
-        c.if-not-branch.true c.in_ok-match_terms.ensures in
+    c.if-not-branch.true c.in_ok-match_terms.ensures in
     let empty = subst (λ old. Matches false old bs (λ s. map (term_under s) c.as_slice.result.now ≡ c.as_slice-2.result.now) (joined (map term_variables c.as_slice.result.now)))
-        (ap bindings c.new-bound.ensures.items) told in
+    (ap bindings c.new-bound.ensures.items) told in
     let left = subst (λ l. Matches false [] bs (λ s. map (term_under s) l ≡ c.as_slice-2.result.now) (joined (map term_variables l))) c.as_slice.ensures empty in
     no_match p t bs (subst (λ l. Matches false [] bs (λ s. map (term_under s) p.args ≡ l) (joined (map term_variables p.args))) c.as_slice-2.ensures left)
 
@@ -26,9 +26,9 @@ returns c =
     let t = c.args.target.now in
     let bs = bindings c.match_terms.new.bound.items in
     let told = subst (λ q. Matches q (bindings c.new-bound.result.items) bs (λ s. map (term_under s) c.as_slice.result.now ≡ c.as_slice-2.result.now) (joined (map term_variables c.as_slice.result.now)))
-        c.if-not-branch.false c.in_ok-match_terms.ensures in
+    c.if-not-branch.false c.in_ok-match_terms.ensures in
     let empty = subst (λ old. Matches true old bs (λ s. map (term_under s) c.as_slice.result.now ≡ c.as_slice-2.result.now) (joined (map term_variables c.as_slice.result.now)))
-        (ap bindings c.new-bound.ensures.items) told in
+    (ap bindings c.new-bound.ensures.items) told in
     let left = subst (λ l. Matches true [] bs (λ s. map (term_under s) l ≡ c.as_slice-2.result.now) (joined (map term_variables l))) c.as_slice.ensures empty in
     let both = subst (λ l. Matches true [] bs (λ s. map (term_under s) p.args ≡ l) (joined (map term_variables p.args))) c.as_slice-2.ensures left in
     let same = same_symbol p.pred t.pred (sym (differs p.pred.0 t.pred.0 (sym c.if-ne.ensures))) in

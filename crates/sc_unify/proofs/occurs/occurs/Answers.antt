@@ -48,7 +48,7 @@ loop-next-preserved-in-Continue-branch-4 c =
     let pushed = shown c.push-in-Some-2.new.self.items c.pop.new.self.items c.in-Some-2.inner c.in-Some-2.inner.now c.in_ok-push-in-Var.ensures.items (λ i. c.in-Some-2.inner.now) in
     let enters = entering bs n c.loop-next.seen.items c.enter.new.seen.items _ c.in-Some-2.inner c.in-Some-2.is c.in_ok-inner-in-Var.ensures in
     let next = entered bs c.requires.solved v c.args.term.now c.loop-next.seen.items (terms c.pop.new.self.items) n c.in-Some-2.inner.now enters.1
-        (subst (IsSearched bs v c.args.term.now c.loop-next.seen.items) last c.loop-next.invariant) in
+    (subst (IsSearched bs v c.args.term.now c.loop-next.seen.items) last c.loop-next.invariant) in
     subst (λ seen. IsSearched bs v c.args.term.now seen (terms c.push-in-Some-2.new.self.items)) (sym enters.0)
     (subst (IsSearched bs v c.args.term.now (c.loop-next.seen.items ++ n ∷ [])) (sym pushed) next)
 

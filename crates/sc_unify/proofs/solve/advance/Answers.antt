@@ -50,14 +50,14 @@ pub loop-equation-preserved-in-Nothing : goal.loop-equation-preserved-in-Nothing
 loop-equation-preserved-in-Nothing c = λ u h.
     let before = c.loop-equation.invariant u h in
     let here = popped (bindings c.args.bound.now) c.requires u h c.loop-equation.todo.items c.pop.new.self.items c.in-Some.equation c.walk-left.result.now c.walk-right.result.now
-        c.in-Some.ensures.items c.walk-left.ensures.same c.walk-right.ensures.same in
+    c.in-Some.ensures.items c.walk-left.ensures.same c.walk-right.ensures.same in
     (λ s. (here.0 (before.0 s)).0, λ s. before.1 (here.1 (s, ap (term_under u) c.in-Nothing.ensures)))
 
 pub loop-equation-preserved : goal.loop-equation-preserved
 loop-equation-preserved c = λ u h.
     let before = c.loop-equation.invariant u h in
     let here = popped (bindings c.args.bound.now) c.requires u h c.loop-equation.todo.items c.pop.new.self.items c.in-Some.equation c.walk-left.result.now c.walk-right.result.now
-        c.in-Some.ensures.items c.walk-left.ensures.same c.walk-right.ensures.same in
+    c.in-Some.ensures.items c.walk-left.ensures.same c.walk-right.ensures.same in
     let inner = solves-arguments u c.walk-left.result.now c.walk-right.result.now c.in-Arguments.lefts.now c.in-Arguments.rights.now c.in-Arguments.ensures in
     let both = solves-append u (equations c.pop.new.self.items) (equated c.in-Arguments.lefts.now c.in-Arguments.rights.now) in
     rw c.in_ok-equate-in-Arguments.ensures (
@@ -68,7 +68,7 @@ loop-equation-preserved c = λ u h.
 pub returns-in-Clash : goal.returns-in-Clash
 returns-in-Clash c = λ u h s.
     let here = popped (bindings c.args.bound.now) c.requires u h c.loop-equation.todo.items c.pop.new.self.items c.in-Some.equation c.walk-left.result.now c.walk-right.result.now
-        c.in-Some.ensures.items c.walk-left.ensures.same c.walk-right.ensures.same in
+    c.in-Some.ensures.items c.walk-left.ensures.same c.walk-right.ensures.same in
     c.in-Clash.ensures u (here.0 ((c.loop-equation.invariant u h).0 s)).1
 
 free_side : (bs : List Binding) (l r : Term) (v : ℕ) (t : Term) → IsWalked bs l → IsWalked bs r → ((l ≡ Var v) × (r ≡ t)) ⊎ ((r ≡ Var v) × (l ≡ t)) → (lookup bs v ≡ None) × IsWalked bs t

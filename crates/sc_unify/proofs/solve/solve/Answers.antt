@@ -35,7 +35,7 @@ pub returns-in-Solved : goal.returns-in-Solved
 returns-in-Solved c =
     let bs = bindings c.loop-bound.bound.items in
     let h = coming c.as_slice.result.now c.loop-bound.bound.items (equations c.loop-bound.todo.items) (equations c.advance.new.todo.items) _ next.Solved
-        c.as_slice.ensures.value c.in-Solved.is c.in_ok-advance.ensures in
+    c.as_slice.ensures.value c.in-Solved.is c.in_ok-advance.ensures in
     record {
       solved = c.loop-bound.invariant.solved;
       same = λ u. (λ s. ((c.loop-bound.invariant.same u).0 s).1, λ r. (c.loop-bound.invariant.same u).1 (h u r, r));
@@ -44,17 +44,17 @@ returns-in-Solved c =
 pub returns-in-Clash : goal.returns-in-Clash
 returns-in-Clash c = λ u s.
     let h = coming c.as_slice.result.now c.loop-bound.bound.items (equations c.loop-bound.todo.items) (equations c.advance.new.todo.items) _ next.Clash
-        c.as_slice.ensures.value c.in-Clash.is c.in_ok-advance.ensures in
+    c.as_slice.ensures.value c.in-Clash.is c.in_ok-advance.ensures in
     let both = (c.loop-bound.invariant.same u).0 s in
     h u both.1 both.0
 
 pub returns-then-branch : goal.returns-then-branch
 returns-then-branch c = λ u s.
     let h = coming c.as_slice.result.now c.loop-bound.bound.items (equations c.loop-bound.todo.items) (equations c.advance.new.todo.items) _ (next.Binding c.in-Binding.one)
-        c.as_slice.ensures.value c.in-Binding.is c.in_ok-advance.ensures in
+    c.as_slice.ensures.value c.in-Binding.is c.in_ok-advance.ensures in
     let both = (c.loop-bound.invariant.same u).0 s in
     let occurs = ap (λ bs. occurs_in c.in-Binding.one.variable (term_under (finished (bindings bs)) c.in-Binding.one.term.now)) (sym c.as_slice-in-Binding.ensures.value)
-        ∙ sym c.in_ok-occurs-in-Binding.ensures ∙ c.if-branch.true in
+    ∙ sym c.in_ok-occurs-in-Binding.ensures ∙ c.if-branch.true in
     no_unifier (bindings c.loop-bound.bound.items) c.loop-bound.invariant.solved c.in-Binding.one.variable c.in-Binding.one.term.now h.walked h.other occurs u both.1
     ((h.same u both.1).0 both.0).1
 
@@ -67,7 +67,7 @@ bindings_more now before b e = ap bindings e ∙ map_append binding before (b �
 pub loop-bound-smaller : goal.loop-bound-smaller
 loop-bound-smaller c =
     let h = coming c.as_slice.result.now c.loop-bound.bound.items (equations c.loop-bound.todo.items) (equations c.advance.new.todo.items) _ (next.Binding c.in-Binding.one)
-        c.as_slice.ensures.value c.in-Binding.is c.in_ok-advance.ensures in
+    c.as_slice.ensures.value c.in-Binding.is c.in_ok-advance.ensures in
     subst (λ bs. unbound (2 ^ 32) bs < unbound (2 ^ 32) (bindings c.loop-bound.bound.items)) (sym (bindings_more c.push.new.self.items c.loop-bound.bound.items c.in-Binding.one c.in_ok-push-in-Binding.ensures.items))
     (unbound-more (2 ^ 32) (bindings c.loop-bound.bound.items) (binding c.in-Binding.one) h.small h.free)
 
@@ -91,10 +91,10 @@ one_more start before now bs after b is old h absent e =
 pub loop-bound-preserved : goal.loop-bound-preserved
 loop-bound-preserved c =
     let h = coming c.as_slice.result.now c.loop-bound.bound.items (equations c.loop-bound.todo.items) (equations c.advance.new.todo.items) _ (next.Binding c.in-Binding.one)
-        c.as_slice.ensures.value c.in-Binding.is c.in_ok-advance.ensures in
+    c.as_slice.ensures.value c.in-Binding.is c.in_ok-advance.ensures in
     let occurs = ap (λ bs. occurs_in c.in-Binding.one.variable (term_under (finished (bindings bs)) c.in-Binding.one.term.now)) (sym c.as_slice-in-Binding.ensures.value)
-        ∙ sym c.in_ok-occurs-in-Binding.ensures ∙ c.if-branch.false in
+    ∙ sym c.in_ok-occurs-in-Binding.ensures ∙ c.if-branch.false in
     let both = one_more (equations c.args.todo.items) (equations c.loop-bound.todo.items) (equations c.advance.new.todo.items) (bindings c.loop-bound.bound.items) (bindings c.push.new.self.items)
-        (binding c.in-Binding.one) c.loop-bound.invariant.solved c.loop-bound.invariant.same h occurs
-        (bindings_more c.push.new.self.items c.loop-bound.bound.items c.in-Binding.one c.in_ok-push-in-Binding.ensures.items) in
+    (binding c.in-Binding.one) c.loop-bound.invariant.solved c.loop-bound.invariant.same h occurs
+    (bindings_more c.push.new.self.items c.loop-bound.bound.items c.in-Binding.one c.in_ok-push-in-Binding.ensures.items) in
     record { solved = both.0; same = both.1 }

@@ -9,6 +9,6 @@ pub returns-in_ok-of-in-Some : goal.returns-in_ok-of-in-Some
 returns-in_ok-of-in-Some c =
     let es = equations c.args.todo.items in
     let is : IsSolution es (bindings c.in-Some.bound.items) =
-        subst (λ o. MatchOption o (HasNoSolution es) (λ bs. IsSolution es (bindings bs.items))) c.in-Some.is c.in_ok-bound.ensures in
+    subst (λ o. MatchOption o (HasNoSolution es) (λ bs. IsSolution es (bindings bs.items))) c.in-Some.is c.in_ok-bound.ensures in
     let made = c.in_ok-of-in-Some.ensures ∙ ap (λ bs. written (bindings bs)) c.as_slice.ensures.value in
     subst (λ s. IsMostGeneralSolution es (substitution s)) (sym made) (most_general es (bindings c.in-Some.bound.items) is)
