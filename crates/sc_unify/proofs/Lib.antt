@@ -8,3 +8,5 @@ pub mod Unifiers
 pub mod Rows
 pub mod Applying
 pub mod MatchingLaws
+pub mod JointLaws
+pub mod JointRows

@@ -3,6 +3,7 @@
 
 mod bound;
 mod equation;
+mod joint;
 mod limits;
 mod matching;
 mod occurs;
