@@ -10,3 +10,4 @@ pub mod Applying
 pub mod MatchingLaws
 pub mod JointLaws
 pub mod JointRows
+pub mod JointTerms

@@ -114,9 +114,12 @@ pub fn joint_terms(alloc: Global, s: &Subst, parents: &Items<Clause>) -> Mem<Opt
 {
     let bound = s.bindings(alloc)?;
     let parents = parents.as_slice();
-    if spend_clauses(bound.as_slice(), parents, WEIGHT).is_none() {
-        return Ok(None);
+    match spend_clauses(bound.as_slice(), parents, WEIGHT) {
+        Some(_) => {
+            let order = order_of(alloc, bound.as_slice(), parents)?;
+            let told = values_of(alloc, bound.as_slice(), order.as_slice(), parents)?;
+            Ok(Some(told))
+        }
+        None => Ok(None),
     }
-    let order = order_of(alloc, bound.as_slice(), parents)?;
-    Ok(Some(values_of(alloc, bound.as_slice(), order.as_slice(), parents)?))
 }

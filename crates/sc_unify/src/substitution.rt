@@ -79,7 +79,8 @@ impl Subst {
         ensures solved { IfOk result (λ r. AreSolved (bindings r.items)) }
         ensures same { IfOk result (λ r. finished (bindings r.items) ≡ substitution self.now) }
     {
-        borrow_bindings(alloc, self.entries.as_slice())
+        let bound = borrow_bindings(alloc, self.entries.as_slice())?;
+        Ok(bound)
     }
 
     /// What the substitution makes of the clause, where that is within the limits.
