@@ -14,6 +14,7 @@
 
 mod bound;
 mod equation;
+mod joint;
 mod limits;
 mod matching;
 mod occurs;
