@@ -33,9 +33,9 @@ module _ (own parents parts : List Clause) (pairs : List Pair) (view bs : List B
   told_terms order told orders is =
       let v = value_at bs order in
       let here : AreTermsOf own (values_above v 0 parents) (map (clause_under v) parents) =
-          subst (λ ps. AreTermsOf own (values_above v 0 ps) (map (clause_under v) ps)) (sym shifted) (terms_of v 0 own) in
+      subst (λ ps. AreTermsOf own (values_above v 0 ps) (map (clause_under v) ps)) (sym shifted) (terms_of v 0 own) in
       let numbered : map (clause_under v) parents ≡ parts =
-          sym ((clauses_laws parents).compose (renumbering order) (finished bs)) ∙ ap (λ o. map (clause_under (renumbering o)) made) orders ∙ sym parts_are in
+      sym ((clauses_laws parents).compose (renumbering order) (finished bs)) ∙ ap (λ o. map (clause_under (renumbering o)) made) orders ∙ sym parts_are in
       subst (λ t. AreTermsOf own t parts) (sym is) (subst (AreTermsOf own (values_above v 0 parents)) numbered here)
 
   abbrev place : ℕ → ℕ

@@ -73,7 +73,13 @@ fn value<'a>(alloc: Global, bound: &[Bound<'a>], order: &[u32], variable: u32) -
 }
 
 /// The values of as many variables as the count, from the first.
-fn values<'a>(alloc: Global, bound: &[Bound<'a>], order: &[u32], first: u32, count: u32) -> Mem<Items<Term>>
+fn values<'a>(
+    alloc: Global,
+    bound: &[Bound<'a>],
+    order: &[u32],
+    first: u32,
+    count: u32,
+) -> Mem<Items<Term>>
     requires solved { AreSolved (bindings bound.now) }
     requires small { first + count < 2 ^ 32 }
     ensures { IfOk result (λ terms. terms ≡ values (value_at (bindings bound.now) order.now) first count) }
@@ -86,7 +92,12 @@ fn values<'a>(alloc: Global, bound: &[Bound<'a>], order: &[u32], first: u32, cou
 }
 
 /// For each clause the values of its variables that are above those of the clauses before it.
-fn values_of<'a>(alloc: Global, bound: &[Bound<'a>], order: &[u32], clauses: &[Clause]) -> Mem<Items<Items<Term>>>
+fn values_of<'a>(
+    alloc: Global,
+    bound: &[Bound<'a>],
+    order: &[u32],
+    clauses: &[Clause],
+) -> Mem<Items<Items<Term>>>
     requires solved { AreSolved (bindings bound.now) }
     requires small { largest (map width clauses.now) < 2 ^ 31 }
     ensures { IfOk result (λ told. told ≡ values_above (value_at (bindings bound.now) order.now) 0 clauses.now) }
@@ -103,7 +114,11 @@ fn values_of<'a>(alloc: Global, bound: &[Bound<'a>], order: &[u32], clauses: &[C
 
 /// For each parent the terms that take its own clause, from which it was shifted, to its part of the joint instance,
 /// or None where the joint instance is outside the limits.
-pub fn joint_terms(alloc: Global, s: &Subst, parents: &Items<Clause>) -> Mem<Option<Items<Items<Term>>>>
+pub fn joint_terms(
+    alloc: Global,
+    s: &Subst,
+    parents: &Items<Clause>,
+) -> Mem<Option<Items<Items<Term>>>>
     requires { largest (map width parents.now) < 2 ^ 31 }
     ensures parts { (own : List AClause) (pairs : List APair) (parts : List AClause) → parents.now ≡ apart own
         → IsMostGeneralUnifier pairs (substitution s.now) → IsJointInstance own pairs parts

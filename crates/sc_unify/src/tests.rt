@@ -1,6 +1,8 @@
-use crate::{match_onto, unify, unify_all};
+ghost use Rattle.std.specs.Prelude.{◌<◌};
+
+use crate::{joint_terms, match_onto, unify, unify_all};
 use sc_data::{Clause, Literal, Pair, SymId, Term};
-use sc_term::{Mem, canonical, copy, copy_term, same, same_terms};
+use sc_term::{Mem, canonical, copy, copy_term, full_width, same, same_terms};
 use sqlite_items::Items;
 use std::alloc::Global;
 
@@ -22,13 +24,10 @@ fn atom(alloc: Global, p: u32, x: Term) -> Mem<Literal> {
 }
 
 /// `p(x1) = p(f(x0,x0))`, `p(x2) = p(f(x1,x1))`, .., over the variables from `low`.
-fn chain(
-    alloc: Global,
-    low: u32,
-    levels: u32,
-    downwards: bool,
-    pairs: &mut Items<Pair>,
-) -> Mem<()> {
+fn chain(alloc: Global, low: u32, levels: u32, downwards: bool, pairs: &mut Items<Pair>) -> Mem<()>
+    requires low { low < 1000 }
+    requires levels { levels < 1000 }
+{
     for step in 0..levels {
         let n = if downwards { levels - 1 - step } else { step };
         let inner = apply2(alloc, 2, Term::Var(low + n), Term::Var(low + n))?;
@@ -55,7 +54,9 @@ fn chain_is_refused_when_written(alloc: Global, downwards: bool) -> Mem<bool> {
     }
 }
 
-fn two_chains_unify(alloc: Global, levels: u32) -> Mem<bool> {
+fn two_chains_unify(alloc: Global, levels: u32) -> Mem<bool>
+    requires { levels < 900 }
+{
     let mut pairs = Items::new(alloc);
     chain(alloc, 0, levels, false, &mut pairs)?;
     chain(alloc, 100, levels, false, &mut pairs)?;
@@ -289,4 +290,40 @@ fn is_copied(alloc: Global) -> Mem<bool> {
 fn variables_are_numbered_by_first_occurrence(rt: HostRuntime) {
     assert_eq!(rt; numbered_from_the_first(rt.alloc()), Ok(true));
     assert_eq!(rt; is_copied(rt.alloc()), Ok(true));
+}
+
+/// Whether the terms for `-p(f(x0))` and for `p(x0)`, shifted to `p(x1)`, are `x0` and `f(x0)`.
+fn joint_terms_are_told(alloc: Global) -> Mem<bool> {
+    let (first, second) = (clause(alloc, (1, b"0f"))?, clause(alloc, (1, b"1"))?);
+    let found = unify(
+        alloc,
+        &literal(alloc, (1, b"0f"))?,
+        &literal(alloc, (1, b"1"))?,
+    )?;
+    let s = match found {
+        Some(s) => s,
+        None => return Ok(false),
+    };
+    if full_width(&first) > 9 || full_width(&second) > 9 {
+        return Ok(false);
+    }
+    let mut parents = Items::new(alloc);
+    parents.push(first)?;
+    parents.push(second)?;
+    let told = match joint_terms(alloc, &s, &parents)? {
+        Some(told) => told,
+        None => return Ok(false),
+    };
+    match (told.get(0), told.get(1)) {
+        (Some(left), Some(right)) => Ok(
+            same_terms(left.as_slice(), terms(alloc, b"0")?.as_slice())
+                && same_terms(right.as_slice(), terms(alloc, b"0f")?.as_slice()),
+        ),
+        _ => Ok(false),
+    }
+}
+
+#[test]
+fn parents_get_the_terms_of_their_parts(rt: HostRuntime) {
+    assert_eq!(rt; joint_terms_are_told(rt.alloc()), Ok(true));
 }

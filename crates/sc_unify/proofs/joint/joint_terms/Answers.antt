@@ -27,8 +27,8 @@ pub returns-in-Some-clause-parts : goal.returns-in-Some-clause-parts
 returns-in-Some-clause-parts c = λ own pairs parts shifted unifier joint.
     let ps = c.as_slice-parents.result.now in
     let order = c.as_slice-in-Some-3.ensures.value ∙ c.in_ok-order-in-Some.ensures
-        ∙ ap (λ b. noted [] (joined (map variables (map (clause_under (finished (bindings b))) ps)))) c.as_slice-in-Some.ensures.value
-        ∙ noted-firsts (joined (map variables (map (clause_under (finished (bindings c.in_ok-bound.bound.items))) ps))) in
+    ∙ ap (λ b. noted [] (joined (map variables (map (clause_under (finished (bindings b))) ps)))) c.as_slice-in-Some.ensures.value
+    ∙ noted-firsts (joined (map variables (map (clause_under (finished (bindings c.in_ok-bound.bound.items))) ps))) in
     let told = c.in_ok-told-in-Some.ensures ∙ ap (λ b. values_above (value_at (bindings b) c.as_slice-in-Some-3.result.now) 0 ps) c.as_slice-in-Some-2.ensures.value in
     told_terms own ps parts pairs c.args.s.now (bindings c.in_ok-bound.bound.items) c.in_ok-bound.ensures.same (c.as_slice-parents.ensures ∙ shifted) unifier joint
     c.as_slice-in-Some-3.result.now c.in_ok-told-in-Some.told order told
