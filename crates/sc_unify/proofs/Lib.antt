@@ -8,3 +8,6 @@ pub mod Unifiers
 pub mod Rows
 pub mod Applying
 pub mod MatchingLaws
+pub mod JointLaws
+pub mod JointRows
+pub mod JointTerms

@@ -167,7 +167,7 @@ pub filled-none : (bs : List Binding) → filled bs 0 ≡ []
 unfolding filled
 filled-none bs = refl
 
-length_more : (xs : List Term) (x : Term) → length (xs ++ x ∷ []) ≡ length xs + 1
+pub length_more : (xs : List Term) (x : Term) → length (xs ++ x ∷ []) ≡ length xs + 1
 length_more [] x = refl
 length_more (y ∷ ys) x = omega (arith, length_more ys x)
 
@@ -176,12 +176,12 @@ unfolding filled
 filled-length bs zero = refl
 filled-length bs (suc n) = omega (arith, filled-length bs n, length_more (filled bs n) (term_of bs n))
 
-in_front : (xs : List Term) (x t : Term) (k : ℕ) → slice_get xs k ≡ Some t → slice_get (xs ++ x ∷ []) k ≡ Some t
+pub in_front : (xs : List Term) (x t : Term) (k : ℕ) → slice_get xs k ≡ Some t → slice_get (xs ++ x ∷ []) k ≡ Some t
 in_front [] x t k e = cc
 in_front (y ∷ ys) x t zero e = e
 in_front (y ∷ ys) x t (suc k) e = in_front ys x t k e
 
-at_end : (xs : List Term) (x : Term) → slice_get (xs ++ x ∷ []) (length xs) ≡ Some x
+pub at_end : (xs : List Term) (x : Term) → slice_get (xs ++ x ∷ []) (length xs) ≡ Some x
 at_end [] x = refl
 at_end (y ∷ ys) x = at_end ys x
 
@@ -192,7 +192,7 @@ filled-at bs (suc n) k less = same_or_not k n
     (λ same. ap (λ j. slice_get (filled bs n ++ term_of bs n ∷ []) j) (same ∙ sym (filled-length bs n)) ∙ at_end (filled bs n) (term_of bs n) ∙ ap (λ j. Some (term_of bs j)) (sym same))
     (λ ne e. let smaller : k < n = omega arith in in_front (filled bs n) (term_of bs n) (term_of bs k) k (filled-at bs n k smaller))
 
-got : (xs : List Term) (k : ℕ) (t d : Term) → slice_get xs k ≡ Some t → get_or xs k d ≡ t
+pub got : (xs : List Term) (k : ℕ) (t d : Term) → slice_get xs k ≡ Some t → get_or xs k d ≡ t
 got [] k t d e = cc
 got (x ∷ xs) zero t d e = cc
 got (x ∷ xs) (suc k) t d e = got xs k t d e

@@ -13,7 +13,7 @@ take-more {X = X} xs i x less at = rw add-one (by xs i less at)
     by (y ∷ ys) zero less at = ap (λ z. z ∷ []) (sym at)
     by (y ∷ ys) (suc i) less at = ap (λ l. y ∷ l) (by ys i (omega arith) at)
 
-map_append : {X Y : Type 0} (f : X → Y) (xs ys : List X) → map f (xs ++ ys) ≡ map f xs ++ map f ys
+pub map_append : {X Y : Type 0} (f : X → Y) (xs ys : List X) → map f (xs ++ ys) ≡ map f xs ++ map f ys
 map_append f [] ys = refl
 map_append f (x ∷ xs) ys = ap (λ l. f x ∷ l) (map_append f xs ys)
 
@@ -25,29 +25,29 @@ pub pushed : {X Y : Type 0} (f : X → Y) (xs : List X) (i : ℕ) (x : X) (y : Y
     → now ≡ map f (take (i + 1) xs)
 pushed f xs i x y made now less at before is grown = grown ∙ (λ j. before j ++ is j ∷ []) ∙ sym (map-more f xs i x less at)
 
-sum_append : (ns : List ℕ) (n : ℕ) → sum (ns ++ n ∷ []) ≡ sum ns + n
+pub sum_append : (ns : List ℕ) (n : ℕ) → sum (ns ++ n ∷ []) ≡ sum ns + n
 sum_append ns n = fold-append (λ a x. a + x) 0 ns (n ∷ [])
 
 largest_append : (ns : List ℕ) (n : ℕ) → largest (ns ++ n ∷ []) ≡ max (largest ns) n
 largest_append ns n = fold-append max 0 ns (n ∷ [])
 
-at_least : (a : ℕ) (ns : List ℕ) → a ≤ fold max a ns
+pub at_least : (a : ℕ) (ns : List ℕ) → a ≤ fold max a ns
 at_least a [] = omega arith
 at_least a (n ∷ ns) = omega (arith, at_least (max a n) ns)
 
-largest_front : (ns ms : List ℕ) → largest ns ≤ largest (ns ++ ms)
+pub largest_front : (ns ms : List ℕ) → largest ns ≤ largest (ns ++ ms)
 largest_front ns ms = omega (arith, fold-append max 0 ns ms, at_least (largest ns) ms)
 
-sum_front : (ns ms : List ℕ) → sum ns ≤ sum (ns ++ ms)
+pub sum_front : (ns ms : List ℕ) → sum ns ≤ sum (ns ++ ms)
 sum_front [] ms = omega arith
 sum_front (n ∷ ns) ms = omega (arith, sum_front ns ms, sum_by-cons (λ k. k) n ns, sum_by-cons (λ k. k) n (ns ++ ms))
 
-abbrev rest : {X : Type 0} → List X → ℕ → List X
+abbrev pub rest : {X : Type 0} → List X → ℕ → List X
 rest xs zero = xs
 rest [] (suc k) = []
 rest (x ∷ xs) (suc k) = rest xs k
 
-split : {X : Type 0} (xs : List X) (k : ℕ) → take k xs ++ rest xs k ≡ xs
+pub split : {X : Type 0} (xs : List X) (k : ℕ) → take k xs ++ rest xs k ≡ xs
 split xs zero = refl
 split [] (suc k) = refl
 split (x ∷ xs) (suc k) = ap (λ l. x ∷ l) (split xs k)

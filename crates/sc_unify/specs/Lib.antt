@@ -4,3 +4,4 @@ pub mod Equations
 pub mod Unifiers
 pub mod Limits
 pub mod Matching
+pub mod Joint

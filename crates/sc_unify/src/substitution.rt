@@ -3,7 +3,7 @@
 ghost use Rattle.std.specs.Prelude.{◌≡◌, ◌↔◌, IfOk, IfSome, IsSome};
 ghost use Rattle.sc_data.specs.Clause.{IsWithinLimits};
 ghost use Rattle.sc_data.specs.Substitution.{clause_under};
-ghost use Rattle.sc_unify.specs.Bindings.{bindings, written, AreSolved};
+ghost use Rattle.sc_unify.specs.Bindings.{bindings, written, finished, AreSolved};
 ghost use Rattle.sc_unify.specs.Unifiers.{substitution};
 
 use crate::bound::{Binding, Bound};
@@ -72,6 +72,15 @@ impl Subst {
     {
         let entries = copy_bindings(alloc, bound)?;
         Ok(Subst { entries })
+    }
+
+    /// The bindings that make the substitution.
+    pub fn bindings(&self, alloc: Global) -> Mem<Vec<Bound>>
+        ensures solved { IfOk result (λ r. AreSolved (bindings r.items)) }
+        ensures same { IfOk result (λ r. finished (bindings r.items) ≡ substitution self.now) }
+    {
+        let bound = borrow_bindings(alloc, self.entries.as_slice())?;
+        Ok(bound)
     }
 
     /// What the substitution makes of the clause, where that is within the limits.
