@@ -1,4 +1,5 @@
 pub mod Numbering
+pub mod Path
 pub mod Term
 pub mod Clause
 pub mod Refuted

@@ -1,6 +1,6 @@
 //! What clauses and proofs are: plain types, and beside them, in `specs/`, the definitions that all contracts above
 //! cite: weight, depth, width, instances, canonical form (`Term`, `Clause`), the steps of a proof and what a proof is
-//! (`Proof`), when clauses are refuted (`Refuted`), most general unifiers (`Substitution`), joint instances
+//! (`Proof`, with `Path` for subterms), when clauses are refuted (`Refuted`), most general unifiers (`Substitution`), joint instances
 //! (`JointInstance`) and truth in an interpretation (`Interpretation`). `proofs/` has the laws on them.
 //!
 //! It stands on the list type of `sqlite_items` alone, which contracts see as a list, and it has no functions.
@@ -46,7 +46,14 @@ pub struct Pair {
     pub right: Literal,
 }
 
-/// How a line follows from earlier ones.
+/// A side of an equation.
+#[derive(Clone, Copy, Debug, PartialEq, Eq)]
+pub enum Side {
+    Left,
+    Right,
+}
+
+/// How a line follows from earlier ones. Lines and literals are numbered from 1.
 #[derive(Debug, Drop)]
 pub enum Step {
     /// The input clause of this number.
@@ -65,6 +72,22 @@ pub enum Step {
     },
     /// The literals of line `of` without one that equals an earlier one.
     Merge {
+        of: u32,
+        lit: u32,
+    },
+    /// Literal `from_lit` of line `from` is a positive equation, and its side `side` the subterm at `path` of literal
+    /// `into_lit` of line `into`: the literals of `into` with the equation's other side in its place, then those of
+    /// `from` without the equation. A path is the places, from 1, of the arguments that lead to the subterm.
+    Para {
+        from: u32,
+        from_lit: u32,
+        side: Side,
+        into: u32,
+        into_lit: u32,
+        path: Items<u32>,
+    },
+    /// The literals of line `of`, with the sides of one, which is an equation, exchanged.
+    Flip {
         of: u32,
         lit: u32,
     },

@@ -1,0 +1,4 @@
+pub mod TextLaws
+pub mod PrintingExamples
+pub mod ProofExamples
+pub mod ProofFaults
