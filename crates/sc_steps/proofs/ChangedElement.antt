@@ -1,6 +1,7 @@
 -- Lists of which one element is changed.
-use Rattle.std.proofs.Common.{◌≡◌, ◌≢◌, ◌∙◌, sym, ap, refl, ℕ, zero, suc, ◌+◌, ◌-◌, ◌<◌, ◌≤◌, ◌==◌, Bool, true, false, ◌&&◌, if◌then◌else◌, List, [], ◌∷◌, ◌++◌, append_assoc, length, take, drop, map, set, get_or, slice_get, Option, Some, None, arith, option_map}
+use Rattle.std.proofs.Common.{◌≡◌, ◌≢◌, ◌∙◌, sym, ap, refl, ℕ, zero, suc, ◌+◌, ◌-◌, ◌<◌, ◌==◌, Bool, true, false, ◌&&◌, if◌then◌else◌, List, [], ◌∷◌, ◌++◌, append_assoc, length, take, drop, map, set, get_or, slice_get, Some, None, arith, option_map}
 use Rattle.std.specs.List.{list_all, remove}
+use Rattle.std.proofs.lemmas.Grind.{common_steps}
 use Rattle.std.proofs.lemmas.List.{append_cancel_left, take-set, drop-set-lt}
 use Rattle.std.proofs.lemmas.Option.{slice_get-map}
 use Rattle.sc_data.specs.Numbering.{numbered}
@@ -57,6 +58,23 @@ pub parts_of_changed : {A : Type 0} (xs ys : List A) (i : ℕ) (x : A) → ys �
 parts_of_changed xs ys i x e =
     (sym (take-set xs i x) ∙ sym (ap (take i) e), sym (drop-set-lt (suc i) xs i x (omega arith)) ∙ sym (ap (drop (suc i)) e))
 
+-- a list with two changes of one element has one change
+pub changed_once : {A : Type 0} (xs : List A) (i : ℕ) (x y : A) (us vs : List A) → i < length xs → set xs i x ++ us ≡ set xs i y ++ vs → (x ≡ y) × (us ≡ vs)
+changed_once [] i x y us vs h e = absurd (omega arith)
+changed_once (z ∷ zs) zero x y us vs h e =
+    let back : zs ++ us ≡ zs ++ vs = cc in
+    (cc, append_cancel_left zs us vs back)
+changed_once (z ∷ zs) (suc i) x y us vs h e =
+    let back : set zs i x ++ us ≡ set zs i y ++ vs = cc in
+    changed_once zs i x y us vs (omega arith) back
+
+pub set_once : {A : Type 0} (xs : List A) (i : ℕ) (x y : A) → i < length xs → set xs i x ≡ set xs i y → x ≡ y
+set_once xs i x y h e = (changed_once xs i x y [] [] h (ap (λ zs. zs ++ []) e)).0
+
+-- the back of a list, as a range of it
+pub back_range : {A : Type 0} (xs : List A) (i : ℕ) → take (length xs - (i + 1)) (drop (i + 1) xs) ≡ drop (suc i) xs
+back_range xs i = grind (arith, common_steps)
+
 -- ---- when a list begins with another with a changed element
 
 pub begins_changed : {A : Type 0} (all xs after behind rest : List A) (i : ℕ) (x : A) → i < length xs → all ≡ take i xs ++ after → after ≡ x ∷ behind
@@ -71,11 +89,6 @@ behind_front all xs rest i x h e = e ∙ ap (λ zs. zs ++ rest) (set_parts xs i 
 
 pub no_front : {A : Type 0} (all xs : List A) (i : ℕ) → i < length xs → ((more : List A) → all ≢ take i xs ++ more) → (x : A) (rest : List A) → all ≢ set xs i x ++ rest
 no_front all xs i h none x rest e = none (x ∷ drop (suc i) xs ++ rest) (behind_front all xs rest i x h e)
-
-pub no_element : {A : Type 0} (all xs after : List A) (i : ℕ) → i < length xs → all ≡ take i xs ++ after → length after ≡ 0 → (x : A) (rest : List A) → all ≢ set xs i x ++ rest
-no_element all xs after i h front none x rest e =
-    let is : after ≡ x ∷ drop (suc i) xs ++ rest = append_cancel_left (take i xs) after (x ∷ drop (suc i) xs ++ rest) (sym front ∙ behind_front all xs rest i x h e) in
-    absurd (omega (arith, none, ap length is))
 
 pub no_back : {A : Type 0} (all xs after behind : List A) (i : ℕ) (y : A) → i < length xs → all ≡ take i xs ++ after → after ≡ y ∷ behind
     → ((more : List A) → behind ≢ drop (suc i) xs ++ more) → (x : A) (rest : List A) → all ≢ set xs i x ++ rest

@@ -1,5 +1,5 @@
 -- Equality axioms, one of which is false in each valuation that doesn't respect an equation.
-use Rattle.std.proofs.Common.{◌≡◌, ◌∙◌, sym, ap, refl, ℕ, suc, ◌-◌, Bool, true, false, not, ◌&&◌, ◌||◌, if◌then◌else◌, List, [], ◌∷◌, ◌++◌, take, drop, map, Some, inl, inr, ◌⊎◌}
+use Rattle.std.proofs.Common.{◌≡◌, ◌∙◌, sym, ap, refl, ℕ, suc, ◌-◌, Bool, true, false, not, ◌&&◌, ◌||◌, List, [], ◌∷◌, ◌++◌, take, drop, map, Some, inl, inr, ◌⊎◌}
 use Rattle.std.specs.List.{list_any, AllByRecursion}
 use Rattle.std.proofs.lemmas.Option.{slice_get_within}
 use Rattle.sc_data.specs.declared.SymId.{SymId}
@@ -11,7 +11,7 @@ use Rattle.sc_data.specs.declared.Side.{Side}
 use Rattle.sc_data.specs.declared.Side.TheVariants.{Left, Right}
 use Rattle.sc_data.specs.Term.{term_instance}
 use Rattle.sc_data.specs.Clause.{literal_instance}
-use Rattle.sc_data.specs.Numbering.{numbered, with_element}
+use Rattle.sc_data.specs.Numbering.{with_element}
 use Rattle.sc_data.specs.Path.{IsReplaced}
 use Rattle.sc_data.specs.Proof.{chosen, other}
 use Rattle.sc_data.specs.Refuted.{Atom, is_true_in, is_false_literal, is_false_clause, equals, equation, IsEqualityAxiom}
@@ -207,7 +207,9 @@ replaced_under terms args (i ∷ []) s t new h =
     (map_numbered (term_instance terms) args i s h.0, ap (map (term_instance terms)) h.1 ∙ map_set (term_instance terms) args (i - 1) t)
 replaced_under terms args (i ∷ j ∷ path) s t new h =
     let f = term_instance terms in (
-      h.0, map f h.1, map f h.2,
+      h.0,
+      map f h.1,
+      map f h.2,
       map_numbered f args i (App h.0 h.1) h.3 ∙ ap Some (instance-App terms h.0 h.1),
       replaced_under terms h.1 (j ∷ path) s t h.2 h.4,
       ap (map f) h.5 ∙ map_set f args (i - 1) (App h.0 h.2) ∙ ap (with_element (map f args) i) (instance-App terms h.0 h.2),

@@ -1,5 +1,5 @@
 -- The steps on equality are sound: finitely many equality axioms stand behind them.
-use Rattle.std.proofs.Common.{◌≡◌, ◌∙◌, sym, ap, ℕ, ◌-◌, List, [], ◌∷◌, ◌++◌, true, Some, inl, inr}
+use Rattle.std.proofs.Common.{◌≡◌, ◌∙◌, sym, ap, ℕ, ◌-◌, List, [], ◌∷◌, ◌++◌, true, inl, inr}
 use Rattle.std.specs.List.{list_all, AllByRecursion}
 use Rattle.sc_data.specs.declared.Term.{Term}
 use Rattle.sc_data.specs.declared.Literal.{Literal}
@@ -13,7 +13,7 @@ use Rattle.sc_data.specs.Proof.{chosen, other, IsParamodulant, IsFlipped}
 use Rattle.sc_steps.proofs.ListLaws.{some_and, at_number, all_append, restored, any_left, any_right, all_both}
 use Rattle.sc_steps.proofs.ChangedElement.{all_changed}
 use Rattle.sc_steps.proofs.Behind.{under_terms, IsSound, by_terms}
-use Rattle.sc_steps.proofs.EqualityLaws.{either, not_false, holds, Axioms, of_replaced, of_exchanged}
+use Rattle.sc_steps.proofs.EqualityLaws.{either, not_false, holds, of_replaced, of_exchanged}
 
 -- axioms are members
 axioms_allowed : (inputs axioms : List Clause) → AllByRecursion IsEqualityAxiom axioms → AllByRecursion (IsMember inputs) axioms

@@ -1,9 +1,10 @@
 //! Whether a clause follows by a step on equality, with nothing made.
 
-ghost use Rattle.std.specs.Prelude.{◌≡◌, ◌≢◌, ◌↔◌, ◌<◌, ◌≤◌, length, IsTrue, IfSome, IfNone};
+ghost use Rattle.std.specs.Prelude.{◌≡◌, ◌≢◌, ◌↔◌, ◌<◌, ◌≤◌, length, true, IsTrue, IfSome, IfNone};
 ghost use Rattle.sc_data.specs.Numbering.{with_element};
 ghost use Rattle.sc_data.specs.Path.{IsReplaced};
-ghost use Rattle.sc_data.specs.Proof.{IsParamodulant, IsFlipped};
+ghost use Rattle.sc_data.specs.Proof.{chosen, other, IsParamodulant, IsFlipped};
+ghost use Rattle.sc_data.specs.Refuted.{equation};
 ghost use Rattle.sc_data.specs.declared.Term.{Term as ATerm};
 ghost use Rattle.sc_steps.specs.Replacement.{AreSides, IsTermReplaced, IsLiteralReplaced, IsLiteralFlipped};
 
@@ -31,7 +32,8 @@ fn changed_argument<'a>(args: &[Term], n: u32, all: &'a [Term]) -> Option<&'a Te
     }
 }
 
-/// Whether the term becomes `new` where its subterm `s` at the path, or the term itself for the empty path, is replaced.
+/// Whether the term becomes `new` where its subterm `s` at the path, or the term itself for the empty path, is replaced
+/// by `t`. It goes no deeper than the terms do, however long the path is.
 #[cycle(replaced)]
 fn is_term_replaced(old: &Term, path: &[u32], s: &Term, t: &Term, new: &Term) -> bool
     ensures { IsTrue result ↔ IsTermReplaced old.now path.now s.now t.now new.now }
@@ -75,7 +77,33 @@ fn sides(l: &Literal) -> Option<(&Term, &Term)>
     }
 }
 
-/// Whether literal `m` becomes `changed` where the chosen side of the positive equation `l` is replaced by the other.
+/// The sides of a positive equation.
+fn positive_sides(l: &Literal) -> Option<(&Term, &Term)>
+    ensures found { IfSome result (λ p. l.now ≡ equation true p.0.now p.1.now) }
+    ensures none { IfNone result ((s t : ATerm) → l.now ≢ equation true s t) }
+{
+    if l.positive { sides(l) } else { None }
+}
+
+/// The chosen side, and then the other.
+fn chosen_first<'a>(side: Side, left: &'a Term, right: &'a Term) -> (&'a Term, &'a Term)
+    ensures chosen { result.0.now ≡ chosen side left.now right.now }
+    ensures other { result.1.now ≡ other side left.now right.now }
+{
+    match side {
+        Side::Left => (left, right),
+        Side::Right => (right, left),
+    }
+}
+
+/// Whether the two have the same sign and the same predicate.
+fn are_alike(l: &Literal, m: &Literal) -> bool
+    ensures { IsTrue result ↔ ((l.now.positive ≡ m.now.positive) × (l.now.pred ≡ m.now.pred)) }
+{
+    l.positive == m.positive && l.pred == m.pred
+}
+
+/// Whether literal `m` becomes `changed` where the chosen side of `l`, a positive equation, is replaced by the other.
 fn is_literal_replaced(
     l: &Literal,
     side: Side,
@@ -85,17 +113,14 @@ fn is_literal_replaced(
 ) -> bool
     ensures { IsTrue result ↔ IsLiteralReplaced l.now side m.now path.now changed.now }
 {
-    let Some((left, right)) = sides(l) else {
-        return false;
-    };
-    let (s, t) = match side {
-        Side::Left => (left, right),
-        Side::Right => (right, left),
-    };
-    l.positive
-        && changed.positive == m.positive
-        && changed.pred == m.pred
-        && is_replaced(m.args.as_slice(), path, s, t, changed.args.as_slice())
+    match positive_sides(l) {
+        Some((left, right)) => {
+            let (s, t) = chosen_first(side, left, right);
+            are_alike(changed, m)
+                && is_replaced(m.args.as_slice(), path, s, t, changed.args.as_slice())
+        }
+        None => false,
+    }
 }
 
 /// Whether the literal is an equation and becomes `turned` where its sides are exchanged.
