@@ -69,10 +69,18 @@ fn line(alloc: Global, k: u32, positive: bool, pred: SymId, how: Use) -> Mem<Lin
         1 => (Step::Input(1), unit(alloc, positive, pred, &[A, B])?),
         2 => (Step::Input(2), pair(alloc, A)?),
         3 => (Step::Input(3), unit(alloc, false, P, &[B])?),
-        4 => (Step::Flip { of: 1, lit: 1 }, unit(alloc, positive, pred, &[B, A])?),
+        4 => (
+            Step::Flip { of: 1, lit: 1 },
+            unit(alloc, positive, pred, &[B, A])?,
+        ),
         5 => (para(alloc, how)?, pair(alloc, B)?),
         6 => (Step::Merge { of: 5, lit: 2 }, unit(alloc, true, P, &[B])?),
-        _ => (last(), Clause { literals: List::new(alloc) }),
+        _ => (
+            last(),
+            Clause {
+                literals: List::new(alloc),
+            },
+        ),
     };
     Ok(Line { step, clause })
 }
@@ -125,6 +133,10 @@ fn an_equation_is_flipped_and_used(rt: HostRuntime) {
     ] {
         let how = Use { side, place, depth };
         let found = verdict(rt.alloc(), positive, pred, how);
-        assert_eq!(rt; found, Ok(Some(want)), "{positive} {pred:?} {side:?}, place {place}, {depth} deep");
+        assert_eq!(rt;
+            found,
+            Ok(Some(want)),
+            "{positive} {pred:?} {side:?}, place {place}, {depth} deep"
+        );
     }
 }
