@@ -8,7 +8,7 @@ use Rattle.std.proofs.Math.Seq.{get_or-append_seam}
 use Rattle.sc_data.specs.declared.Clause.{Clause}
 use Rattle.sc_data.specs.declared.Line.{Line}
 use Rattle.sc_data.specs.declared.Step.{Step}
-use Rattle.sc_data.specs.declared.Step.TheVariants.{Input, Instance, Resolve, Merge}
+use Rattle.sc_data.specs.declared.Step.TheVariants.{Input, Instance, Resolve, Merge, Para, Flip}
 use Rattle.sc_data.specs.Numbering.{numbered}
 use Rattle.sc_data.specs.Proof.{clause_of, Follows, IsStep, AreSteps}
 use Rattle.sc_steps.specs.declared.derivation.Derived.{Derived}
@@ -57,6 +57,12 @@ moved_follows clauses inputs done lines became c (Resolve j a k b) other stands 
     some_so _ _ left.0 (stands j left.0 left.1) (some_so _ _ right.0 (stands k right.0 right.1) right.2)
 moved_follows clauses inputs done lines became c (Merge j a) other stands h =
     let of = some_and _ _ h in some_so _ _ of.0 (stands j of.0 of.1) of.2
+moved_follows clauses inputs done lines became c (Para j a side k b path) other stands h =
+    let from = some_and _ _ h in
+    let into = some_and _ _ from.2 in
+    some_so _ _ from.0 (stands j from.0 from.1) (some_so _ _ into.0 (stands k into.0 into.1) into.2)
+moved_follows clauses inputs done lines became c (Flip j a) other stands h =
+    let of = some_and _ _ h in some_so _ _ of.0 (stands j of.0 of.1) of.2
 
 -- each clause that the line names has its last line in the proof
 abbrev pub HasNamed : List Clause → (ℕ → ℕ) → List Line → Step → Type 0
@@ -67,6 +73,8 @@ named_step (Input m) n e = let same : m ≡ n = cc in ap Input same
 named_step (Instance j terms) n e = cc
 named_step (Resolve j a k b) n e = cc
 named_step (Merge j a) n e = cc
+named_step (Para j a side k b path) n e = cc
+named_step (Flip j a) n e = cc
 
 pub joins_more : (clauses inputs : List Clause) (last : ℕ → ℕ) (done : List Line) (so : Joined) (l : Line) → Joins inputs done so
     → HasNamed clauses last so.lines l.step → IsStep clauses done l → Joins inputs (done ++ l ∷ []) (join_line last so l)

@@ -4,7 +4,7 @@ use Rattle.std.specs.List.{AllPairs}
 use Rattle.sc_data.specs.declared.Clause.{Clause}
 use Rattle.sc_data.specs.declared.Line.{Line}
 use Rattle.sc_data.specs.declared.Step.{Step}
-use Rattle.sc_data.specs.declared.Step.TheVariants.{Input, Instance, Resolve, Merge}
+use Rattle.sc_data.specs.declared.Step.TheVariants.{Input, Instance, Resolve, Merge, Para, Flip}
 use Rattle.sc_data.specs.Numbering.{numbered}
 use Rattle.sc_steps.specs.declared.derivation.Derived.{Derived}
 use Rattle.sc_steps.specs.Derivation.{derived_at, IsInputAt}
@@ -28,6 +28,8 @@ named_by (Input n) = Some n
 named_by (Instance j terms) = None
 named_by (Resolve j a k b) = None
 named_by (Merge j a) = None
+named_by (Para j a side k b path) = None
+named_by (Flip j a) = None
 
 -- what line k has become
 abbrev pub line_of : List ℕ → ℕ → ℕ
@@ -39,6 +41,8 @@ moved became (Input n) = Input n
 moved became (Instance j terms) = Instance (line_of became j) terms
 moved became (Resolve j a k b) = Resolve (line_of became j) a (line_of became k) b
 moved became (Merge j a) = Merge (line_of became j) a
+moved became (Para j a side k b path) = Para (line_of became j) a side (line_of became k) b path
+moved became (Flip j a) = Flip (line_of became j) a
 
 -- the lines of the proof so far, and the lines that those of a derivation have become
 pub record Joined : Type 0 where

@@ -55,6 +55,28 @@ fn moved(alloc: Global, became: &[u32], step: &Step) -> Mem<Step>
             of: line_of(became, *of as usize),
             lit: *lit,
         }),
+        Step::Para {
+            from,
+            from_lit,
+            side,
+            into,
+            into_lit,
+            path,
+        } => {
+            let path = Items::from_slice(alloc, path.as_slice())?;
+            Ok(Step::Para {
+                from: line_of(became, *from as usize),
+                from_lit: *from_lit,
+                side: *side,
+                into: line_of(became, *into as usize),
+                into_lit: *into_lit,
+                path,
+            })
+        }
+        Step::Flip { of, lit } => Ok(Step::Flip {
+            of: line_of(became, *of as usize),
+            lit: *lit,
+        }),
     }
 }
 

@@ -24,6 +24,15 @@ pub fn named_by(step: &Step) -> Option<u32>
             right_lit: _,
         } => None,
         Step::Merge { of: _, lit: _ } => None,
+        Step::Para {
+            from: _,
+            from_lit: _,
+            side: _,
+            into: _,
+            into_lit: _,
+            path: _,
+        } => None,
+        Step::Flip { of: _, lit: _ } => None,
     }
 }
 
