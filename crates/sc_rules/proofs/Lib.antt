@@ -15,8 +15,13 @@ pub mod TurnLaws
 pub mod OneMeant
 pub mod DemodulatorLaws
 pub mod RunLaws
+pub mod Enumerations
+pub mod PairLaws
+pub mod DerivationCases
 pub mod ConflictExample
 pub mod FactorExample
+pub mod BinaryExample
+pub mod ParaExample
 pub mod RewriteExample
 pub mod ProcessExample
 pub mod RunExample
