@@ -1,5 +1,6 @@
 -- The elements of short lists, one by one.
-use Rattle.std.proofs.Common.{◌≡◌, ◌∙◌, sym, refl, ℕ, zero, suc, ◌⊎◌, inl, inr, List, [], ◌∷◌, Some, None, Option, slice_get, arith}
+use Rattle.std.proofs.Common.{◌≡◌, ◌∙◌, sym, subst, refl, ℕ, zero, suc, ◌⊎◌, inl, inr, List, [], ◌∷◌, Some, None, Option, slice_get, arith}
+use Rattle.std.specs.Prelude.{IsSomeAnd}
 use Rattle.std.specs.List.{Contains, All, AllPairs}
 use Rattle.std.proofs.lemmas.List.Kept.{AllPairs-cons}
 use Rattle.sc_data.specs.Numbering.{numbered}
@@ -72,6 +73,28 @@ numbered_three a b c n x h = by (numbered_cons a (b ∷ c ∷ []) n x h)
     by : ((n ≡ 1) × (a ≡ x)) ⊎ ((m : ℕ) × (n ≡ suc m) × (numbered (b ∷ c ∷ []) m ≡ Some x)) → ((n ≡ 1) × (a ≡ x)) ⊎ ((n ≡ 2) × (b ≡ x)) ⊎ ((n ≡ 3) × (c ≡ x))
     by (inl e) = inl e
     by (inr k) = rest k.0 k.1 (numbered_two b c k.0 x k.2)
+
+some_there : {X : Type 0} (o : Option X) (P : X → Type 0) → IsSomeAnd o P → (x : X) × (o ≡ Some x) × P x
+some_there None P h = absurd h
+some_there (Some x) P h = (x, refl, h)
+
+-- what holds of element n of a list holds of one of its elements
+pub some_of_one : {X : Type 0} (P : X → Type 0) (a : X) (n : ℕ) → IsSomeAnd (numbered (a ∷ []) n) P → (n ≡ 1) × P a
+some_of_one P a n h =
+    let there = some_there (numbered (a ∷ []) n) P h in
+    let e = numbered_one a n there.0 there.1 in
+    (e.0, subst P (sym e.1) there.2)
+
+pub some_of_three : {X : Type 0} (P : X → Type 0) (a b c : X) (n : ℕ) → IsSomeAnd (numbered (a ∷ b ∷ c ∷ []) n) P → ((n ≡ 1) × P a) ⊎ ((n ≡ 2) × P b) ⊎ ((n ≡ 3) × P c)
+some_of_three {X} P a b c n h = by (numbered_three a b c n there.0 there.1)
+  where
+    there : (x : X) × (numbered (a ∷ b ∷ c ∷ []) n ≡ Some x) × P x
+    there = some_there (numbered (a ∷ b ∷ c ∷ []) n) P h
+
+    by : ((n ≡ 1) × (a ≡ there.0)) ⊎ ((n ≡ 2) × (b ≡ there.0)) ⊎ ((n ≡ 3) × (c ≡ there.0)) → ((n ≡ 1) × P a) ⊎ ((n ≡ 2) × P b) ⊎ ((n ≡ 3) × P c)
+    by (inl e) = inl (e.0, subst P (sym e.1) there.2)
+    by (inr (inl e)) = inr (inl (e.0, subst P (sym e.1) there.2))
+    by (inr (inr e)) = inr (inr (e.0, subst P (sym e.1) there.2))
 
 -- ---- all of them, and all pairs
 

@@ -21,6 +21,8 @@ pub mod DerivationCases
 pub mod ConflictExample
 pub mod FactorExample
 pub mod BinaryExample
+pub mod HyperExample
+pub mod UrExample
 pub mod ParaExample
 pub mod RewriteExample
 pub mod ProcessExample
