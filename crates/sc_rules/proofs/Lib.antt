@@ -25,5 +25,6 @@ pub mod HyperExample
 pub mod UrExample
 pub mod ParaExample
 pub mod RewriteExample
+pub mod SimplifyExample
 pub mod ProcessExample
 pub mod RunExample
