@@ -22,6 +22,19 @@ use Rattle.sc_rules.specs.Resolution.{IsBinary, AreBinarySites, binary_numbers}
 use Rattle.sc_rules.specs.Order.{IsBefore}
 use Rattle.sc_rules.proofs.Enumerations.{in_three, numbered_one, numbered_two, all_of_one, all_of_two, pairs_of_two}
 use Rattle.sc_rules.proofs.PairLaws.{unifier_of_one, opposite_one, first_unifying, first_opposed, one_predicate, same_sign}
+use Rattle.std.proofs.Common.{get_or}
+use Rattle.sc_data.specs.declared.Line.{Line}
+use Rattle.sc_data.specs.declared.Step.TheVariants.{Input, Instance, Resolve}
+use Rattle.sc_data.specs.Term.{term_under}
+use Rattle.sc_data.specs.Clause.{instance, variables}
+use Rattle.sc_data.specs.Substitution.{IsInstanceOf, clause_under}
+use Rattle.sc_data.specs.JointInstance.{renumbered, IsJointInstance}
+use Rattle.sc_data.proofs.TermSteps.{variables-Var, variables-App}
+use Rattle.sc_data.proofs.TermLaws.{instance-Var, instance-App, weight-App, depth-App}
+use Rattle.sc_steps.specs.declared.derivation.Derived.{Derived}
+use Rattle.sc_rules.specs.Derivation.{Adds, AddsPart, AddsParts}
+use Rattle.sc_rules.specs.Inference.{Ends, Concludes}
+use Rattle.sc_rules.proofs.DerivationCases.{adds_input, adds_whole, adds_instance, terms_of_one}
 
 abbrev a : Term
 a = App (record { 0 = 3 }) []
@@ -190,3 +203,74 @@ sites limit some = record {
     listed : (x : BinarySite) → (site 1 1 ≡ x) ⊎ (site 3 2 ≡ x) → Contains (site 1 1 ∷ site 3 2 ∷ []) x
     listed x (inl e) = (0, omega arith, e)
     listed x (inr e) = (1, omega arith, e)
+
+-- ---- the conclusion of the first site
+
+abbrev part : Clause
+part = record { literals = lit false 1 a ∷ lit true 2 a ∷ [] }
+
+abbrev conclusion : Clause
+conclusion = record { literals = lit true 2 a ∷ [] }
+
+general : (t : Substitution) → IsUnifier (pair_with true 1 ∷ []) t → IsInstanceOf s t
+general t u = (t, same)
+  where
+    equal : term_under t (Var 0) ≡ term_under t a
+    equal = ap (λ (x : Atom). get_or x.args 0 (Var 0)) (u 0 (pair_with true 1) (omega arith))
+
+    same : (n : ℕ) → t n ≡ term_under t (s n)
+    same zero = sym (under-Var t 0) ∙ equal
+    same (suc n) = sym (under-Var t (suc n))
+
+joint : IsJointInstance (given.clause ∷ one.clause ∷ []) (pair_with true 1 ∷ []) (part ∷ one.clause ∷ [])
+joint = (s, record { unifies = unifies true 1; general = general }, sym (ap (λ cs. renumbered (map (clause_under s) cs)) (apart_so true 1) ∙ simp (under-Var, under-App, variables-App)))
+
+abbrev lines_one : List Line
+lines_one = record { step = Input 2; clause = given.clause } ∷ []
+
+abbrev lines_two : List Line
+lines_two = record { step = Input 2; clause = given.clause } ∷ record { step = Instance 1 (a ∷ []); clause = part } ∷ []
+
+abbrev lines_three : List Line
+lines_three = record { step = Input 2; clause = given.clause } ∷ record { step = Instance 1 (a ∷ []); clause = part } ∷ record { step = Input 1; clause = one.clause } ∷ []
+
+abbrev lines_four : List Line
+lines_four =
+    record { step = Input 2; clause = given.clause }
+    ∷ record { step = Instance 1 (a ∷ []); clause = part }
+    ∷ record { step = Input 1; clause = one.clause }
+    ∷ record { step = Resolve 2 1 3 1; clause = conclusion } ∷ []
+
+wide : width given.clause ≡ 1
+wide = simp width-Var
+
+gives : instance (a ∷ []) given.clause ≡ part
+gives = simp instance-Var
+
+other_part : ¬ (part ≡ given.clause)
+other_part h = let same : a ≡ Var 0 = ap (λ (c : Clause). get_or (get_or c.literals 0 (lit true 1 a)).args 0 (Var 0)) h in cc
+
+opens_given : AddsPart [] given part lines_two 2
+opens_given = adds_instance [] given part lines_one 1 (a ∷ []) lines_two (adds_input [] given refl) other_part (terms_of_one given.clause part a (0 ∷ []) wide (simp variables-Var) gives) (part, (sym wide, sym gives), refl)
+
+opens : AddsParts [] (given ∷ one ∷ []) (part ∷ one.clause ∷ []) lines_three (2 ∷ 3 ∷ [])
+opens = (lines_two, opens_given, (lines_three, adds_whole lines_two one lines_three 3 (adds_input lines_two one refl), (refl, refl)))
+
+ends : Ends (Resolving (1 ∷ []) (1 ∷ [])) (2 ∷ 3 ∷ []) lines_three lines_four
+ends = (lines_four, (conclusion, ((refl, refl), refl), refl), refl)
+
+-- q(a), with its four lines
+pub concludes : Concludes (record { parents = given ∷ one ∷ []; pairs = pair_with true 1 ∷ []; ending = Resolving (1 ∷ []) (1 ∷ []) }) (record { clause = conclusion; lines = lines_four })
+concludes = record {
+  parts = part ∷ one.clause ∷ [];
+  joint = joint;
+  joint_within = record { light = simp weight-App (omega arith); shallow = simp depth-App (omega arith) };
+  opening = lines_three;
+  part_lines = 2 ∷ 3 ∷ [];
+  opens = opens;
+  steps = lines_four;
+  ends = ends;
+  canonical_last = inl (simp variables-App, refl);
+  conclusion = refl;
+  conclusion_within = record { light = simp weight-App (omega arith); shallow = simp depth-App (omega arith) };
+}

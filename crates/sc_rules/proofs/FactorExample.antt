@@ -17,6 +17,21 @@ use Rattle.sc_rules.specs.Inference.{Inference, Merging}
 use Rattle.sc_rules.specs.Resolution.{IsFactor, AreFactorSites}
 use Rattle.sc_data.proofs.TermSteps.{under-Var, under-App}
 use Rattle.sc_rules.proofs.NumberLaws.{numbered-suc}
+use Rattle.std.proofs.Common.{get_or}
+use Rattle.sc_data.specs.declared.Line.{Line}
+use Rattle.sc_data.specs.Clause.{instance, variables, width}
+use Rattle.sc_data.specs.Refuted.{Atom}
+use Rattle.sc_data.specs.Term.{term_under}
+use Rattle.sc_data.specs.Substitution.{IsInstanceOf, clause_under}
+use Rattle.sc_data.specs.JointInstance.{renumbered, IsJointInstance}
+use Rattle.sc_data.proofs.TermSteps.{variables-Var, variables-App}
+use Rattle.sc_data.proofs.TermLaws.{width-Var, width-App, instance-Var, instance-App, weight-App, depth-App}
+use Rattle.sc_steps.specs.declared.derivation.Derived.{Derived}
+use Rattle.sc_rules.specs.Derivation.{Adds, AddsPart, AddsParts}
+use Rattle.sc_rules.specs.Inference.{Ends, Concludes}
+use Rattle.sc_rules.proofs.DerivationCases.{adds_input, adds_whole, adds_instance, terms_of_one, terms_of_two}
+use Rattle.sc_data.specs.declared.Step.TheVariants.{Input, Instance, Merge}
+use Rattle.std.proofs.Common.{ap}
 
 abbrev a : Term
 a = App (record { 0 = 2 }) []
@@ -92,3 +107,64 @@ sites limit some = record { rising = λ i j d less within. absurd (omega arith);
     only : All (λ x. (i : Inference) × IsFactor given x i) (site ∷ [])
     only zero d h = (inference, is_factor)
     only (suc k) d h = absurd (omega arith)
+
+-- ---- its conclusion
+
+abbrev part : Clause
+part = record { literals = p a ∷ p a ∷ [] }
+
+abbrev conclusion : Clause
+conclusion = record { literals = p a ∷ [] }
+
+general : (t : Substitution) → IsUnifier pairs t → IsInstanceOf s t
+general t u = (t, same)
+  where
+    equal : term_under t a ≡ term_under t (Var 0)
+    equal = ap (λ (x : Atom). get_or x.args 0 (Var 0)) (u 0 (record { left = p a; right = p (Var 0) }) (omega arith))
+
+    same : (n : ℕ) → t n ≡ term_under t (s n)
+    same zero = sym (under-Var t 0) ∙ sym equal
+    same (suc n) = sym (under-Var t (suc n))
+
+joint : IsJointInstance (clause ∷ []) pairs (part ∷ [])
+joint = (s, record { unifies = unifies; general = general }, sym (ap (λ cs. renumbered (map (clause_under s) cs)) apart_so ∙ simp (under-Var, under-App, variables-App)))
+
+abbrev lines_one : List Line
+lines_one = record { step = Input 1; clause = clause } ∷ []
+
+abbrev lines_two : List Line
+lines_two = record { step = Input 1; clause = clause } ∷ record { step = Instance 1 (a ∷ []); clause = part } ∷ []
+
+abbrev lines_three : List Line
+lines_three = record { step = Input 1; clause = clause } ∷ record { step = Instance 1 (a ∷ []); clause = part } ∷ record { step = Merge 2 2; clause = conclusion } ∷ []
+
+wide : width clause ≡ 1
+wide = simp (width-App, width-Var)
+
+gives : instance (a ∷ []) clause ≡ part
+gives = simp (instance-App, instance-Var)
+
+other_part : ¬ (part ≡ clause)
+other_part h = let same : a ≡ Var 0 = ap (λ (c : Clause). get_or (get_or c.literals 1 (p a)).args 0 (Var 0)) h in cc
+
+opens : AddsParts [] (given ∷ []) (part ∷ []) lines_two (2 ∷ [])
+opens = (lines_two, adds_instance [] given part lines_one 1 (a ∷ []) lines_two (adds_input [] given refl) other_part (terms_of_one clause part a [] wide (simp (variables-App, variables-Var)) gives) (part, (sym wide, sym gives), refl), (refl, refl))
+
+merges : Ends (Merging 2) (2 ∷ []) lines_two lines_three
+merges = (conclusion, ((0, omega arith, refl), refl), refl)
+
+-- p(a), with its three lines
+pub concludes : Concludes inference (record { clause = conclusion; lines = lines_three })
+concludes = record {
+  parts = part ∷ [];
+  joint = joint;
+  joint_within = record { light = simp weight-App (omega arith); shallow = simp depth-App (omega arith) };
+  opening = lines_two;
+  part_lines = 2 ∷ [];
+  opens = opens;
+  steps = lines_three;
+  ends = merges;
+  canonical_last = inl (simp variables-App, refl);
+  conclusion = refl;
+  conclusion_within = record { light = simp weight-App (omega arith); shallow = simp depth-App (omega arith) };
+}

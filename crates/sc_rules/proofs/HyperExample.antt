@@ -22,6 +22,20 @@ use Rattle.sc_rules.specs.Order.{IsBefore, AreInOrder}
 use Rattle.sc_rules.proofs.Enumerations.{in_three, numbered_one, some_of_one, some_of_three, all_of_one, all_of_two, all_of_four, pairs_of_two, pairs_of_four}
 use Rattle.sc_rules.proofs.PairLaws.{unifier_of_two}
 use Rattle.sc_rules.proofs.OrderLaws.{in_order_is_one}
+use Rattle.std.proofs.Common.{get_or}
+use Rattle.sc_data.specs.declared.Line.{Line}
+use Rattle.sc_data.specs.Clause.{instance, variables, width}
+use Rattle.sc_data.specs.Refuted.{Atom}
+use Rattle.sc_data.specs.Term.{term_under}
+use Rattle.sc_data.specs.Substitution.{IsInstanceOf, clause_under}
+use Rattle.sc_data.specs.JointInstance.{renumbered, IsJointInstance}
+use Rattle.sc_data.proofs.TermSteps.{variables-Var, variables-App}
+use Rattle.sc_data.proofs.TermLaws.{width-Var, width-App, instance-Var, instance-App, weight-App, depth-App}
+use Rattle.sc_steps.specs.declared.derivation.Derived.{Derived}
+use Rattle.sc_rules.specs.Derivation.{Adds, AddsPart, AddsParts}
+use Rattle.sc_rules.specs.Inference.{Ends, Concludes}
+use Rattle.sc_rules.proofs.DerivationCases.{adds_input, adds_whole, adds_instance, terms_of_one, terms_of_two}
+use Rattle.sc_data.specs.declared.Step.TheVariants.{Input, Instance, Resolve}
 
 -- constant 1 is a, and constant 2 is b
 abbrev pub constant : ℕ → Term
@@ -204,3 +218,111 @@ sites limit some = record {
 
     second : Contains usable (electron 2)
     second = (1, omega arith, refl)
+
+-- ---- the conclusion of the second site
+
+abbrev a : Term
+a = constant 1
+
+abbrev b : Term
+b = constant 2
+
+abbrev part : Clause
+part = record { literals = p false a ∷ p false b ∷ r a b ∷ [] }
+
+abbrev rest : Clause
+rest = record { literals = p false b ∷ r a b ∷ [] }
+
+abbrev conclusion : Clause
+conclusion = record { literals = r a b ∷ [] }
+
+unifies : IsUnifier (pairs 1 2) (s 1 2)
+unifies = unifier_of_two (record { left = p false (Var 0); right = p true a }) (record { left = p false (Var 1); right = p true b }) (s 1 2) (simp (under-App, under-Var)) (simp (under-App, under-Var))
+
+general : (t : Substitution) → IsUnifier (pairs 1 2) t → IsInstanceOf (s 1 2) t
+general t u = (t, same)
+  where
+    first : term_under t (Var 0) ≡ term_under t a
+    first = ap (λ (x : Atom). get_or x.args 0 (Var 0)) (u 0 (record { left = p false a; right = p true a }) (omega arith))
+
+    second : term_under t (Var 1) ≡ term_under t b
+    second = ap (λ (x : Atom). get_or x.args 0 (Var 0)) (u 1 (record { left = p false a; right = p true a }) (omega arith))
+
+    same : (n : ℕ) → t n ≡ term_under t (s 1 2 n)
+    same zero = sym (under-Var t 0) ∙ first
+    same (suc zero) = sym (under-Var t 1) ∙ second
+    same (suc (suc n)) = sym (under-Var t (suc (suc n)))
+
+abbrev parents : List Numbered
+parents = nucleus ∷ electron 1 ∷ electron 2 ∷ []
+
+abbrev parts : List Clause
+parts = part ∷ (electron 1).clause ∷ (electron 2).clause ∷ []
+
+joint : IsJointInstance (nucleus.clause ∷ (electron 1).clause ∷ (electron 2).clause ∷ []) (pairs 1 2) parts
+joint = (s 1 2, record { unifies = unifies; general = general }, sym (ap (λ cs. renumbered (map (clause_under (s 1 2)) cs)) (apart_so 1 2) ∙ simp (under-Var, under-App, variables-App)))
+
+abbrev lines_two : List Line
+lines_two = record { step = Input 3; clause = nucleus.clause } ∷ record { step = Instance 1 (a ∷ b ∷ []); clause = part } ∷ []
+
+abbrev lines_three : List Line
+lines_three = record { step = Input 3; clause = nucleus.clause } ∷ record { step = Instance 1 (a ∷ b ∷ []); clause = part } ∷ record { step = Input 1; clause = (electron 1).clause } ∷ []
+
+abbrev lines_four : List Line
+lines_four =
+    record { step = Input 3; clause = nucleus.clause }
+    ∷ record { step = Instance 1 (a ∷ b ∷ []); clause = part }
+    ∷ record { step = Input 1; clause = (electron 1).clause }
+    ∷ record { step = Input 2; clause = (electron 2).clause } ∷ []
+
+abbrev lines_five : List Line
+lines_five =
+    record { step = Input 3; clause = nucleus.clause }
+    ∷ record { step = Instance 1 (a ∷ b ∷ []); clause = part }
+    ∷ record { step = Input 1; clause = (electron 1).clause }
+    ∷ record { step = Input 2; clause = (electron 2).clause }
+    ∷ record { step = Resolve 2 1 3 1; clause = rest } ∷ []
+
+abbrev lines_six : List Line
+lines_six =
+    record { step = Input 3; clause = nucleus.clause }
+    ∷ record { step = Instance 1 (a ∷ b ∷ []); clause = part }
+    ∷ record { step = Input 1; clause = (electron 1).clause }
+    ∷ record { step = Input 2; clause = (electron 2).clause }
+    ∷ record { step = Resolve 2 1 3 1; clause = rest }
+    ∷ record { step = Resolve 5 1 4 1; clause = conclusion } ∷ []
+
+wide : width nucleus.clause ≡ 2
+wide = simp width-Var
+
+gives : instance (a ∷ b ∷ []) nucleus.clause ≡ part
+gives = simp instance-Var
+
+other_part : ¬ (part ≡ nucleus.clause)
+other_part h = let same : a ≡ Var 0 = ap (λ (c : Clause). get_or (get_or c.literals 0 (p true a)).args 0 (Var 0)) h in cc
+
+opens_nucleus : AddsPart [] nucleus part lines_two 2
+opens_nucleus = adds_instance [] nucleus part (record { step = Input 3; clause = nucleus.clause } ∷ []) 1 (a ∷ b ∷ []) lines_two (adds_input [] nucleus refl) other_part
+    (terms_of_two nucleus.clause part a b (0 ∷ 1 ∷ []) wide (simp variables-Var) gives) (part, (sym wide, sym gives), refl)
+
+opens : AddsParts [] parents parts lines_four (2 ∷ 3 ∷ 4 ∷ [])
+opens = (lines_two, opens_nucleus, (lines_three, adds_whole lines_two (electron 1) lines_three 3 (adds_input lines_two (electron 1) refl), (lines_four, adds_whole lines_three (electron 2) lines_four 4 (adds_input lines_three (electron 2) refl), (refl, refl))))
+
+resolves : Ends (Resolving (1 ∷ 2 ∷ []) (1 ∷ 1 ∷ [])) (2 ∷ 3 ∷ 4 ∷ []) lines_four lines_six
+resolves = (lines_five, (rest, ((refl, refl), refl), refl), (lines_six, (conclusion, ((refl, refl), refl), refl), refl))
+
+-- r(a,b), with its six lines
+pub concludes : Concludes (inference 1 2) (record { clause = conclusion; lines = lines_six })
+concludes = record {
+  parts = parts;
+  joint = joint;
+  joint_within = record { light = simp weight-App (omega arith); shallow = simp depth-App (omega arith) };
+  opening = lines_four;
+  part_lines = 2 ∷ 3 ∷ 4 ∷ [];
+  opens = opens;
+  steps = lines_six;
+  ends = resolves;
+  canonical_last = inl (simp variables-App, refl);
+  conclusion = refl;
+  conclusion_within = record { light = simp weight-App (omega arith); shallow = simp depth-App (omega arith) };
+}
