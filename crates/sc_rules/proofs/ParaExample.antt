@@ -27,6 +27,20 @@ use Rattle.sc_rules.specs.Paramodulation.{IsCompound, IsPara, IsParaFrom, IsPara
 use Rattle.sc_rules.specs.Order.{IsBefore}
 use Rattle.sc_rules.proofs.Enumerations.{in_two, numbered_one, numbered_two, numbered_none, numbered_cons, all_of_one, all_of_two, pairs_of_one, pairs_of_two}
 use Rattle.sc_rules.proofs.PairLaws.{unifier_of_one}
+use Rattle.std.proofs.Common.{get_or}
+use Rattle.sc_data.specs.declared.Line.{Line}
+use Rattle.sc_data.specs.Clause.{instance, variables, width}
+use Rattle.sc_data.specs.Refuted.{Atom}
+use Rattle.sc_data.specs.Term.{term_under}
+use Rattle.sc_data.specs.Substitution.{IsInstanceOf, clause_under}
+use Rattle.sc_data.specs.JointInstance.{renumbered, IsJointInstance}
+use Rattle.sc_data.proofs.TermSteps.{variables-Var, variables-App}
+use Rattle.sc_data.proofs.TermLaws.{width-Var, width-App, instance-Var, instance-App, weight-App, depth-App}
+use Rattle.sc_steps.specs.declared.derivation.Derived.{Derived}
+use Rattle.sc_rules.specs.Derivation.{Adds, AddsPart, AddsParts}
+use Rattle.sc_rules.specs.Inference.{Ends, Concludes}
+use Rattle.sc_rules.proofs.DerivationCases.{adds_input, adds_whole, adds_instance, terms_of_one, terms_of_two}
+use Rattle.sc_data.specs.declared.Step.TheVariants.{Input, Instance, Para}
 
 abbrev symbol : ℕ → SymId
 symbol n = record { 0 = n }
@@ -274,4 +288,80 @@ sites_into limit some = record {
       (inference fact (f a e), record { from = rule; listed = (0, omega arith, refl); para = into_fact });
   no_more = omega arith;
   first = λ x h. inl (only_into x h.0 h.1);
+}
+
+-- ---- the conclusion into the fact
+
+abbrev part : Clause
+part = record { literals = equation true (f a e) a ∷ [] }
+
+abbrev conclusion : Clause
+conclusion = record { literals = record { positive = true; pred = record { 0 = 1 }; args = a ∷ [] } ∷ [] }
+
+abbrev taken : Substitution
+taken = value_of (a ∷ [])
+
+unifies : IsUnifier (pair_with (f a e) ∷ []) taken
+unifies = unifier_of_one (pair_with (f a e)) taken (simp (under-App, under-Var))
+
+general : (t : Substitution) → IsUnifier (pair_with (f a e) ∷ []) t → IsInstanceOf taken t
+general t u = (t, same)
+  where
+    whole : term_under t (f (Var 0) e) ≡ term_under t (f a e)
+    whole = ap (λ (x : Atom). get_or x.args 0 (Var 0)) (u 0 (pair_with a) (omega arith))
+
+    arguments : map (term_under t) (Var 0 ∷ e ∷ []) ≡ map (term_under t) (a ∷ e ∷ [])
+    arguments = (App-injective (symbol 2) (symbol 2) (map (term_under t) (Var 0 ∷ e ∷ [])) (map (term_under t) (a ∷ e ∷ []))
+        (sym (under-App t (symbol 2) (Var 0 ∷ e ∷ [])) ∙ whole ∙ under-App t (symbol 2) (a ∷ e ∷ []))).1
+
+    same : (n : ℕ) → t n ≡ term_under t (taken n)
+    same zero = sym (under-Var t 0) ∙ ap (λ (ts : List Term). get_or ts 0 (Var 0)) arguments
+    same (suc n) = sym (under-Var t (suc n))
+
+joint : IsJointInstance (rule.clause ∷ fact.clause ∷ []) (pair_with (f a e) ∷ []) (part ∷ fact.clause ∷ [])
+joint = (taken, record { unifies = unifies; general = general }, sym (ap (λ cs. renumbered (map (clause_under taken) cs)) apart_fact ∙ simp (under-Var, under-App, variables-App)))
+
+abbrev lines_two : List Line
+lines_two = record { step = Input 1; clause = rule.clause } ∷ record { step = Instance 1 (a ∷ []); clause = part } ∷ []
+
+abbrev lines_three : List Line
+lines_three = record { step = Input 1; clause = rule.clause } ∷ record { step = Instance 1 (a ∷ []); clause = part } ∷ record { step = Input 2; clause = fact.clause } ∷ []
+
+abbrev lines_four : List Line
+lines_four =
+    record { step = Input 1; clause = rule.clause }
+    ∷ record { step = Instance 1 (a ∷ []); clause = part }
+    ∷ record { step = Input 2; clause = fact.clause }
+    ∷ record { step = Para 2 1 Left 3 1 (1 ∷ []); clause = conclusion } ∷ []
+
+wide : width rule.clause ≡ 1
+wide = simp (width-App, width-Var)
+
+gives : instance (a ∷ []) rule.clause ≡ part
+gives = simp (instance-App, instance-Var)
+
+other_part : ¬ (part ≡ rule.clause)
+other_part h = let same : a ≡ Var 0 = ap (λ (c : Clause). get_or (get_or c.literals 0 (equation true a a)).args 1 (Var 0)) h in cc
+
+opens_rule : AddsPart [] rule part lines_two 2
+opens_rule = adds_instance [] rule part (record { step = Input 1; clause = rule.clause } ∷ []) 1 (a ∷ []) lines_two (adds_input [] rule refl) other_part
+    (terms_of_one rule.clause part a (0 ∷ []) wide (simp (variables-App, variables-Var)) gives) (part, (sym wide, sym gives), refl)
+
+opens : AddsParts [] (rule ∷ fact ∷ []) (part ∷ fact.clause ∷ []) lines_three (2 ∷ 3 ∷ [])
+opens = (lines_two, opens_rule, (lines_three, adds_whole lines_two fact lines_three 3 (adds_input lines_two fact refl), (refl, refl)))
+
+-- p(a), with its four lines
+pub concludes : Concludes (inference fact (f a e)) (record { clause = conclusion; lines = lines_four })
+concludes = record {
+  parts = part ∷ fact.clause ∷ [];
+  joint = joint;
+  joint_within = record { light = simp weight-App (omega arith); shallow = simp depth-App (omega arith) };
+  opening = lines_three;
+  part_lines = 2 ∷ 3 ∷ [];
+  opens = opens;
+  steps = lines_four;
+  ends = (conclusion, (f a e, a, refl, (a ∷ [], (refl, refl), refl)), refl);
+  canonical_last = inl (simp variables-App, refl);
+  conclusion = refl;
+  conclusion_within = record { light = simp weight-App (omega arith); shallow = simp depth-App (omega arith) };
 }

@@ -23,6 +23,19 @@ use Rattle.sc_rules.proofs.Enumerations.{in_three, numbered_one, numbered_three,
 use Rattle.sc_rules.proofs.PairLaws.{unifier_of_two, opposite_two, same_sign}
 use Rattle.sc_rules.proofs.DerivationLaws.{compared}
 use Rattle.sc_rules.proofs.OrderLaws.{in_order_is_one}
+use Rattle.std.proofs.Common.{get_or}
+use Rattle.sc_data.specs.declared.Line.{Line}
+use Rattle.sc_data.specs.Clause.{instance, variables, width}
+use Rattle.sc_data.specs.Term.{term_under}
+use Rattle.sc_data.specs.Substitution.{IsInstanceOf, clause_under}
+use Rattle.sc_data.specs.JointInstance.{renumbered, IsJointInstance}
+use Rattle.sc_data.proofs.TermSteps.{variables-Var, variables-App}
+use Rattle.sc_data.proofs.TermLaws.{width-Var, width-App, instance-Var, instance-App, weight-App, depth-App}
+use Rattle.sc_steps.specs.declared.derivation.Derived.{Derived}
+use Rattle.sc_rules.specs.Derivation.{Adds, AddsPart, AddsParts}
+use Rattle.sc_rules.specs.Inference.{Ends, Concludes}
+use Rattle.sc_rules.proofs.DerivationCases.{adds_input, adds_whole, adds_instance, terms_of_one, terms_of_two}
+use Rattle.sc_data.specs.declared.Step.TheVariants.{Input, Instance, Resolve}
 
 abbrev pub a : Term
 a = App (record { 0 = 4 }) []
@@ -228,4 +241,103 @@ sites limit some = record {
   only = all_of_one (λ x. (i : Inference) × IsUr nucleus usable x i) site (inference, is_site);
   no_more = omega arith;
   first = λ x h. inl (0, omega arith, only_sites x h.0 h.1);
+}
+
+-- ---- its conclusion
+
+abbrev part : Clause
+part = record { literals = p false a ∷ q a ∷ s true ∷ [] }
+
+abbrev rest : Clause
+rest = record { literals = q a ∷ s true ∷ [] }
+
+abbrev conclusion : Clause
+conclusion = record { literals = q a ∷ [] }
+
+abbrev taken : Substitution
+taken = value_of (a ∷ [])
+
+unifies : IsUnifier (first_pair ∷ second_pair ∷ []) taken
+unifies = unifier_of_two first_pair second_pair taken (simp (under-App, under-Var)) refl
+
+general : (t : Substitution) → IsUnifier (first_pair ∷ second_pair ∷ []) t → IsInstanceOf taken t
+general t u = (t, same)
+  where
+    first : term_under t (Var 0) ≡ term_under t a
+    first = ap (λ (x : Atom). get_or x.args 0 (Var 0)) (u 0 first_pair (omega arith))
+
+    same : (n : ℕ) → t n ≡ term_under t (taken n)
+    same zero = sym (under-Var t 0) ∙ first
+    same (suc n) = sym (under-Var t (suc n))
+
+abbrev parts : List Clause
+parts = part ∷ one.clause ∷ two.clause ∷ []
+
+joint : IsJointInstance (nucleus.clause ∷ one.clause ∷ two.clause ∷ []) (first_pair ∷ second_pair ∷ []) parts
+joint = (taken, record { unifies = unifies; general = general }, sym (ap (λ cs. renumbered (map (clause_under taken) cs)) apart_so ∙ simp (under-Var, under-App, variables-App)))
+
+abbrev lines_two : List Line
+lines_two = record { step = Input 3; clause = nucleus.clause } ∷ record { step = Instance 1 (a ∷ []); clause = part } ∷ []
+
+abbrev lines_three : List Line
+lines_three = record { step = Input 3; clause = nucleus.clause } ∷ record { step = Instance 1 (a ∷ []); clause = part } ∷ record { step = Input 1; clause = one.clause } ∷ []
+
+abbrev lines_four : List Line
+lines_four =
+    record { step = Input 3; clause = nucleus.clause }
+    ∷ record { step = Instance 1 (a ∷ []); clause = part }
+    ∷ record { step = Input 1; clause = one.clause }
+    ∷ record { step = Input 2; clause = two.clause } ∷ []
+
+abbrev lines_five : List Line
+lines_five =
+    record { step = Input 3; clause = nucleus.clause }
+    ∷ record { step = Instance 1 (a ∷ []); clause = part }
+    ∷ record { step = Input 1; clause = one.clause }
+    ∷ record { step = Input 2; clause = two.clause }
+    ∷ record { step = Resolve 2 1 3 1; clause = rest } ∷ []
+
+abbrev lines_six : List Line
+lines_six =
+    record { step = Input 3; clause = nucleus.clause }
+    ∷ record { step = Instance 1 (a ∷ []); clause = part }
+    ∷ record { step = Input 1; clause = one.clause }
+    ∷ record { step = Input 2; clause = two.clause }
+    ∷ record { step = Resolve 2 1 3 1; clause = rest }
+    ∷ record { step = Resolve 5 2 4 1; clause = conclusion } ∷ []
+
+wide : width nucleus.clause ≡ 1
+wide = simp width-Var
+
+gives : instance (a ∷ []) nucleus.clause ≡ part
+gives = simp instance-Var
+
+other_part : ¬ (part ≡ nucleus.clause)
+other_part h = let same : a ≡ Var 0 = ap (λ (c : Clause). get_or (get_or c.literals 0 (p true a)).args 0 (Var 0)) h in cc
+
+opens_nucleus : AddsPart [] nucleus part lines_two 2
+opens_nucleus = adds_instance [] nucleus part (record { step = Input 3; clause = nucleus.clause } ∷ []) 1 (a ∷ []) lines_two (adds_input [] nucleus refl) other_part
+    (terms_of_one nucleus.clause part a (0 ∷ []) wide (simp variables-Var) gives) (part, (sym wide, sym gives), refl)
+
+opens : AddsParts [] (nucleus ∷ one ∷ two ∷ []) parts lines_four (2 ∷ 3 ∷ 4 ∷ [])
+opens = (lines_two, opens_nucleus, (lines_three, adds_whole lines_two one lines_three 3 (adds_input lines_two one refl), (lines_four, adds_whole lines_three two lines_four 4 (adds_input lines_three two refl), (refl, refl))))
+
+-- the third literal is the second once the first is gone
+resolves : Ends (Resolving (1 ∷ 3 ∷ []) (1 ∷ 1 ∷ [])) (2 ∷ 3 ∷ 4 ∷ []) lines_four lines_six
+resolves = (lines_five, (rest, ((refl, refl), refl), refl), (lines_six, (conclusion, ((refl, refl), refl), refl), refl))
+
+-- q(a), with its six lines
+pub concludes : Concludes inference (record { clause = conclusion; lines = lines_six })
+concludes = record {
+  parts = parts;
+  joint = joint;
+  joint_within = record { light = simp weight-App (omega arith); shallow = simp depth-App (omega arith) };
+  opening = lines_four;
+  part_lines = 2 ∷ 3 ∷ 4 ∷ [];
+  opens = opens;
+  steps = lines_six;
+  ends = resolves;
+  canonical_last = inl (simp variables-App, refl);
+  conclusion = refl;
+  conclusion_within = record { light = simp weight-App (omega arith); shallow = simp depth-App (omega arith) };
 }
