@@ -1,6 +1,7 @@
 pub mod OrderLaws
 pub mod FirstLaws
 pub mod FilterLaws
+pub mod CheckLaws
 pub mod NestLaws
 pub mod NumberLaws
 pub mod StepLaws
