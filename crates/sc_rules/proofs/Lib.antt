@@ -11,11 +11,13 @@ pub mod ProcessLaws
 pub mod InferenceLaws
 pub mod SoundLaws
 pub mod SoundProcessing
+pub mod DerivedBook
 pub mod WorkLaws
 pub mod TurnLaws
 pub mod OneMeant
 pub mod DemodulatorLaws
 pub mod RunLaws
+pub mod DerivedRun
 pub mod Enumerations
 pub mod PairLaws
 pub mod DerivationCases

@@ -37,7 +37,7 @@ placed n (c ∷ cs) p h = by (λ k. placed (n + 1) cs p k) (first_or_later p (re
     by below (inl e) = (0, (let f = ap (λ (q : Numbered). q.number) e in omega (arith, f)), ap (λ (q : Numbered). Some q.clause) e)
     by below (inr k) = let found = below k in (suc found.0, omega (arith, found.1), found.2)
 
-input_stands : (problem : Stated) (p : Numbered) → Contains (input_clauses problem) p → numbered problem.inputs p.number ≡ Some p.clause
+pub input_stands : (problem : Stated) (p : Numbered) → Contains (input_clauses problem) p → numbered problem.inputs p.number ≡ Some p.clause
 input_stands problem p h =
     let at = placed 1 problem.inputs p h in
     let e : p.number ≡ suc at.0 = omega (arith, at.1) in
@@ -66,7 +66,7 @@ demodulator_there problem such p h home =
     let e : p.number ≡ suc at.0 = omega (arith, at.1) in
     home_of_demodulators problem.homes problem.inputs at.0 p.clause such.demodulators (sym (numbered-suc problem.homes at.0) ∙ sym (ap (numbered problem.homes) e) ∙ home) at.2
 
-opened_sound : (problem : Stated) (book : Book) → IsProblem problem → OpensBook problem book → IsSound problem book
+pub opened_sound : (problem : Stated) (book : Book) → IsProblem problem → OpensBook problem book → IsSound problem book
 opened_sound problem book such h = record {
   under_numbers = each (StandsIn problem book) (live book ++ book.demods) (λ p k. stands p (from p (in_either p (live book) book.demods k)));
   demodulators = each (λ d. IsDemodulator d.clause) book.demods (λ d k. let at = filter_within (IsAtHome problem Demodulators) d (input_clauses problem) book.demods h.demods k in demodulator_there problem such d at.0 at.1);
@@ -104,7 +104,7 @@ starts_one problem book other goal aim h k =
     (subst (λ (p : Numbered). EndsWith problem k.opened p book goal) n (subst (λ (o : Book). EndsWith problem o a.0 book goal) opened a.2)) b.2)
     (λ a b. (a.0 ∙ opened ∙ sym b.0, a.1 ∙ sym b.1)) h.ends k.ends
 
-starts_sound : (problem : Stated) (book : Book) (goal : Option ℕ) → IsProblem problem → Starts problem book goal → IsSound problem book
+pub starts_sound : (problem : Stated) (book : Book) (goal : Option ℕ) → IsProblem problem → Starts problem book goal → IsSound problem book
 starts_sound problem book goal such h =
     let opened = opened_sound problem h.opened such h.opens in
     where_either

@@ -46,7 +46,7 @@ append_one_more : {X : Type 0} (xs ys : List X) (x : X) → xs ++ (ys ++ x ∷ [
 append_one_more [] ys x = refl
 append_one_more (y ∷ xs) ys x = λ i. y ∷ append_one_more xs ys x i
 
-grown : (problem : Stated) (book : Book) (c : Clause) (lines : List Line) → numbered_clauses problem (with_derived book c lines) ≡ numbered_clauses problem book ++ c ∷ []
+pub grown : (problem : Stated) (book : Book) (c : Clause) (lines : List Line) → numbered_clauses problem (with_derived book c lines) ≡ numbered_clauses problem book ++ c ∷ []
 grown problem book c lines =
     ap (λ (cs : List Clause). problem.inputs ++ cs) (map_one_more (λ (d : Derived). d.clause) book.derived (record { clause = c; lines = lines }))
     ∙ append_one_more problem.inputs (map (λ (d : Derived). d.clause) book.derived) c

@@ -97,7 +97,7 @@ mark_one t c truth.Wide truth.Wide h k = refl
 
 -- ---- the given clause moves
 
-given_sound : (problem : Stated) (book : Book) (p : Numbered) → Contains book.sos p → IsSound problem book → IsSound problem (with_given book p)
+pub given_sound : (problem : Stated) (book : Book) (p : Numbered) → Contains book.sos p → IsSound problem book → IsSound problem (with_given book p)
 given_sound problem book p there sound = still_sound problem book (with_given book p) sound (λ q h. h) (λ q h. inl (from q (in_either q (live (with_given book p)) book.demods h))) (λ d h. inl h)
   where
     in_sos : (q : Numbered) → Contains book.sos q → Contains (live book ++ book.demods) q
@@ -125,7 +125,7 @@ given_sound problem book p there sound = still_sound problem book (with_given bo
 
 -- ---- a turn
 
-selected_there : (problem : Stated) (sos : List Numbered) (t : ℕ) (name : VersionName) (v : ClaimedStructure) (p : Numbered) (c : Cause) → Selects problem sos t name v p c → Contains sos p
+pub selected_there : (problem : Stated) (sos : List Numbered) (t : ℕ) (name : VersionName) (v : ClaimedStructure) (p : Numbered) (c : Cause) → Selects problem sos t name v p c → Contains sos p
 selected_there problem sos t name v p c = where_either (λ h. h.1.listed) (where_either (λ h. h.1.listed) (λ h. h.1.listed))
 
 sos_tell : (problem : Stated) (book : Book) → IsSound problem book → NumbersTell book.sos
@@ -134,7 +134,7 @@ sos_tell problem book sound x y h k e = live_tell problem book sound x y (in_sos
     in_sos : (q : Numbered) → Contains book.sos q → Contains (live book) q
     in_sos q k = in_first q (book.usable ++ book.sos) book.passive (in_second q book.usable book.sos k)
 
-usable_tell : (problem : Stated) (book : Book) → IsSound problem book → NumbersTell book.usable
+pub usable_tell : (problem : Stated) (book : Book) → IsSound problem book → NumbersTell book.usable
 usable_tell problem book sound x y h k e = live_tell problem book sound x y (in_usable x h) (in_usable y k) e
   where
     in_usable : (q : Numbered) → Contains book.usable q → Contains (live book) q

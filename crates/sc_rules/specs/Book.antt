@@ -9,7 +9,7 @@ use Rattle.sc_rules.specs.Rewriting.{IsDemodulator}
 use Rattle.sc_reading.specs.Problem.{Stated}
 use Rattle.sc_data.specs.declared.Numbered.{Numbered}
 use Rattle.sc_steps.specs.declared.derivation.Derived.{Derived}
-use Rattle.sc_steps.specs.Derivation.{all_clauses}
+use Rattle.sc_steps.specs.Derivation.{all_clauses, AreDerived}
 use Rattle.sc_rules.specs.declared.row.KeptRow.{KeptRow}
 
 -- the derived clauses, the four lists, and the rows of kept clauses
@@ -55,3 +55,7 @@ with_deleted book gone = record book { usable = leaving_out gone book.usable; so
 pub record IsSound (problem : Stated) (book : Book) : Type 0 where
   pub under_numbers : All (λ p. numbered (numbered_clauses problem book) p.number ≡ Some p.clause) (live book ++ book.demods)
   pub demodulators : All (λ d. IsDemodulator d.clause) book.demods
+
+-- each derived clause follows by its derivation from the clauses of smaller number
+abbrev pub IsDerived : Stated → Book → Type 0
+IsDerived problem book = AreDerived problem.inputs book.derived
