@@ -11,6 +11,7 @@ pub mod ProcessLaws
 pub mod InferenceLaws
 pub mod SoundLaws
 pub mod SoundProcessing
+pub mod ConflictLaws
 pub mod DerivedBook
 pub mod WorkLaws
 pub mod TurnLaws
@@ -18,6 +19,7 @@ pub mod OneMeant
 pub mod DemodulatorLaws
 pub mod RunLaws
 pub mod DerivedRun
+pub mod GoalLaws
 pub mod Enumerations
 pub mod PairLaws
 pub mod DerivationCases

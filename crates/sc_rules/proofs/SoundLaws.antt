@@ -33,7 +33,7 @@ numbered_append {X} xs ys n x h = by (n == 0) refl
     by true e = let bad : ◌≡◌ {A = Option X} None (Some x) = sym (ap (λ b. if b then None else slice_get xs (n - 1)) e) ∙ h in cc
     by false e = ap (λ b. if b then None else slice_get (xs ++ ys) (n - 1)) e ∙ got_append xs ys (n - 1) x (sym (ap (λ b. if b then None else slice_get xs (n - 1)) e) ∙ h)
 
-numbered_last : {X : Type 0} (xs : List X) (x : X) → numbered (xs ++ x ∷ []) (length xs + 1) ≡ Some x
+pub numbered_last : {X : Type 0} (xs : List X) (x : X) → numbered (xs ++ x ∷ []) (length xs + 1) ≡ Some x
 numbered_last xs x =
     let e : length xs + 1 ≡ suc (length xs) = omega arith in
     ap (numbered (xs ++ x ∷ [])) e ∙ numbered-suc (xs ++ x ∷ []) (length xs) ∙ got_last xs x
