@@ -1,39 +1,30 @@
 -- Worked: the sites of binary resolution of -p(x0) | q(x0) with p(a), itself and -q(a).
-use Rattle.std.proofs.Common.{◌≡◌, ◌≢◌, ◌∙◌, refl, sym, ap, subst, ℕ, zero, suc, ◌+◌, ◌<◌, ◌⊎◌, inl, inr, List, [], ◌∷◌, map, arith, true, false, not, Bool, Some}
-use Rattle.std.specs.List.{Contains, All}
+use Rattle.std.proofs.Common.{◌≡◌, ◌∙◌, refl, sym, ap, subst, ℕ, zero, suc, ◌+◌, ◌<◌, ◌⊎◌, inl, inr, List, [], ◌∷◌, map, arith, true, false, not, Bool, Some, get_or}
+use Rattle.std.specs.List.{Contains}
 use Rattle.sc_data.specs.declared.Term.{Term, Var}
 use Rattle.sc_data.specs.declared.Term.TheVariants.{App}
 use Rattle.sc_data.specs.declared.Literal.{Literal}
 use Rattle.sc_data.specs.declared.Clause.{Clause}
 use Rattle.sc_data.specs.declared.Numbered.{Numbered}
 use Rattle.sc_data.specs.declared.Pair.{Pair}
-use Rattle.sc_data.specs.Term.{value_of}
-use Rattle.sc_data.specs.Clause.{width}
+use Rattle.sc_data.specs.Term.{value_of, term_under}
+use Rattle.sc_data.specs.Clause.{width, instance}
 use Rattle.sc_data.specs.Numbering.{numbered}
 use Rattle.sc_data.specs.Refuted.{Atom}
-use Rattle.sc_data.specs.Substitution.{Substitution, IsUnifier, Unify, literal_under}
-use Rattle.sc_data.specs.JointInstance.{apart}
-use Rattle.sc_data.proofs.TermSteps.{under-Var, under-App}
-use Rattle.sc_data.proofs.TermLaws.{width-Var, width-App}
+use Rattle.sc_data.specs.Substitution.{Substitution, IsUnifier, literal_under, IsInstanceOf, clause_under}
+use Rattle.sc_data.specs.JointInstance.{apart, renumbered, IsJointInstance}
+use Rattle.sc_data.proofs.TermSteps.{under-Var, under-App, variables-Var, variables-App}
+use Rattle.sc_data.proofs.TermLaws.{width-Var, instance-Var, weight-App, depth-App}
 use Rattle.sc_rules.specs.declared.site.BinarySite.{BinarySite}
-use Rattle.sc_rules.specs.Pairing.{Place, literal_at, ArePairs, HaveOppositeSigns, places_in}
-use Rattle.sc_rules.specs.Inference.{Inference, Resolving, parent_clauses}
+use Rattle.sc_rules.specs.Pairing.{Place, literal_at, ArePairs, places_in}
+use Rattle.sc_rules.specs.Inference.{Inference, Resolving, Ends, Concludes}
 use Rattle.sc_rules.specs.Resolution.{IsBinary, AreBinarySites, binary_numbers}
 use Rattle.sc_rules.specs.Order.{IsBefore}
-use Rattle.sc_rules.proofs.Enumerations.{in_three, numbered_one, numbered_two, all_of_one, all_of_two, pairs_of_two}
+use Rattle.sc_rules.proofs.Enumerations.{in_three, numbered_one, numbered_two, all_of_two, pairs_of_two}
 use Rattle.sc_rules.proofs.PairLaws.{unifier_of_one, opposite_one, first_unifying, first_opposed, one_predicate, same_sign}
-use Rattle.std.proofs.Common.{get_or}
 use Rattle.sc_data.specs.declared.Line.{Line}
 use Rattle.sc_data.specs.declared.Step.TheVariants.{Input, Instance, Resolve}
-use Rattle.sc_data.specs.Term.{term_under}
-use Rattle.sc_data.specs.Clause.{instance, variables}
-use Rattle.sc_data.specs.Substitution.{IsInstanceOf, clause_under}
-use Rattle.sc_data.specs.JointInstance.{renumbered, IsJointInstance}
-use Rattle.sc_data.proofs.TermSteps.{variables-Var, variables-App}
-use Rattle.sc_data.proofs.TermLaws.{instance-Var, instance-App, weight-App, depth-App}
-use Rattle.sc_steps.specs.declared.derivation.Derived.{Derived}
-use Rattle.sc_rules.specs.Derivation.{Adds, AddsPart, AddsParts}
-use Rattle.sc_rules.specs.Inference.{Ends, Concludes}
+use Rattle.sc_rules.specs.Derivation.{AddsPart, AddsParts}
 use Rattle.sc_rules.proofs.DerivationCases.{adds_input, adds_whole, adds_instance, terms_of_one}
 
 abbrev a : Term

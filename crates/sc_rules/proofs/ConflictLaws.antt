@@ -1,19 +1,18 @@
 -- Two units that conflict give the empty clause.
-use Rattle.std.proofs.Common.{◌≡◌, ◌∙◌, sym, ap, subst, refl, ℕ, zero, suc, ◌+◌, ◌-◌, ◌<◌, ◌≤◌, ◌⊎◌, inl, inr, List, [], ◌∷◌, ◌++◌, length, map, take, Some, None, Option, arith, length-append}
-use Rattle.std.specs.Prelude.{IsSomeAnd, remove}
+use Rattle.std.proofs.Common.{◌≡◌, ◌∙◌, sym, ap, subst, refl, ℕ, ◌+◌, ◌-◌, inl, inr, List, [], ◌∷◌, ◌++◌, length, map, take, Some, arith, length-append}
+use Rattle.std.specs.Prelude.{IsSomeAnd}
 use Rattle.std.proofs.lemmas.List.{length-map}
 use Rattle.sc_data.specs.declared.Term.{Term}
 use Rattle.sc_data.specs.declared.Literal.{Literal}
 use Rattle.sc_data.specs.declared.Clause.{Clause}
 use Rattle.sc_data.specs.declared.Line.{Line}
 use Rattle.sc_data.specs.declared.Numbered.{Numbered}
-use Rattle.sc_data.specs.declared.Pair.{Pair}
 use Rattle.sc_data.specs.declared.Step.{Step}
 use Rattle.sc_data.specs.declared.Step.TheVariants.{Input, Instance, Resolve}
 use Rattle.sc_data.specs.Numbering.{numbered, without}
 use Rattle.sc_data.specs.Clause.{IsCanonical, instance}
 use Rattle.sc_data.specs.Proof.{Follows, IsStep, IsStepAt, AreSteps, IsResolvent, clause_of}
-use Rattle.sc_data.specs.JointInstance.{canonical, apart, renumbered, IsJointInstance}
+use Rattle.sc_data.specs.JointInstance.{canonical, apart, renumbered}
 use Rattle.sc_data.specs.Substitution.{Substitution, clause_under}
 use Rattle.sc_steps.specs.declared.derivation.Derived.{Derived}
 use Rattle.sc_steps.specs.Derivation.{IsInputAt, last_clause}
@@ -21,7 +20,7 @@ use Rattle.sc_steps.proofs.ListLaws.{some_and}
 use Rattle.sc_steps.proofs.LineLaws.{number_within, map_some, clause_in_whole, clause_of_end}
 use Rattle.sc_rules.specs.Order.{Where}
 use Rattle.sc_rules.specs.Derivation.{Adds, AddsInput, AddsPart, AddsParts, AreTermsTo, EndsCanonical}
-use Rattle.sc_rules.specs.Inference.{Inference, Ending, Resolving, ResolvesAll, Ends, Concludes, parent_clauses}
+use Rattle.sc_rules.specs.Inference.{Ending, Resolving, Ends}
 use Rattle.sc_rules.specs.Conflict.{Conflicts}
 use Rattle.sc_rules.proofs.StepLaws.{same_some}
 use Rattle.sc_rules.proofs.CheckLaws.{Stands, part_checks}

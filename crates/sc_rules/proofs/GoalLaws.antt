@@ -1,5 +1,5 @@
 -- A run that has found the empty clause has a proof, and its input clauses are refuted.
-use Rattle.std.proofs.Common.{◌≡◌, ◌≢◌, ◌∙◌, sym, ap, subst, refl, ℕ, zero, suc, ◌+◌, ◌<◌, ◌⊎◌, inl, inr, List, [], ◌∷◌, ◌++◌, length, map, Some, None, Option, arith, length-append}
+use Rattle.std.proofs.Common.{◌≡◌, ◌≢◌, ◌∙◌, sym, ap, subst, ℕ, ◌+◌, inl, inr, List, [], ◌∷◌, length, map, Some, None, Option, arith, length-append}
 use Rattle.std.specs.Prelude.{IsSomeAnd}
 use Rattle.std.specs.List.{Contains}
 use Rattle.sc_data.specs.declared.Clause.{Clause}
@@ -8,7 +8,7 @@ use Rattle.sc_data.specs.declared.Numbered.{Numbered}
 use Rattle.sc_data.specs.Numbering.{numbered}
 use Rattle.sc_steps.specs.declared.derivation.Derived.{Derived}
 use Rattle.sc_steps.specs.Derivation.{all_clauses}
-use Rattle.sc_steps.proofs.LineLaws.{some_so}
+use Rattle.sc_steps.proofs.LineLaws.{some_so, number_in_whole, number_of_end}
 use Rattle.sc_steps.proofs.SpliceCalls.{proves}
 use Rattle.sc_steps.proofs.Soundness.{proof-refutes}
 use Rattle.sc_reading.specs.Problem.{Stated}
@@ -16,16 +16,15 @@ use Rattle.sc_reading.specs.WellFormed.{IsProblem}
 use Rattle.sc_rules.specs.declared.fate.Fate.{Fate}
 use Rattle.sc_rules.specs.declared.fate.Fate.TheVariants.{Kept, Empty, Taut, Heavy, Long, Subsumed}
 use Rattle.sc_rules.specs.declared.fate.Processed.{Processed}
-use Rattle.sc_rules.specs.Book.{Book, IsSound, numbered_clauses, live, next_number, with_derived}
-use Rattle.sc_rules.specs.Processing.{with_kept, Keeps, Sweeps, MeetsFate, Processes}
+use Rattle.sc_rules.specs.Book.{Book, IsSound, numbered_clauses, next_number, with_derived}
+use Rattle.sc_rules.specs.Processing.{with_kept, Keeps, MeetsFate, Processes}
 use Rattle.sc_rules.specs.Start.{input_clauses, OpensBook, EndsWith, Starts}
 use Rattle.sc_rules.specs.Selection.{Seen}
 use Rattle.sc_rules.specs.WorkList.{Item, Finish, Done, Found, TooMany, Works, done, too_many, nothing, found, goes_on}
 use Rattle.sc_rules.specs.Turn.{Run, Infer, Turns, with_given, goal_of}
 use Rattle.sc_rules.specs.Run.{GoesOver, started, IsRun, RunRefutes}
-use Rattle.sc_rules.proofs.CheckLaws.{Stands}
 use Rattle.sc_rules.proofs.ConflictLaws.{conflict_empty}
-use Rattle.sc_rules.proofs.SoundLaws.{StandsIn, grown, numbered_append, numbered_last, kept_sound, kept_stands}
+use Rattle.sc_rules.proofs.SoundLaws.{StandsIn, grown, kept_sound, kept_stands}
 use Rattle.sc_rules.proofs.SoundProcessing.{where_either, processes_sound}
 use Rattle.sc_rules.proofs.DerivedBook.{all_stand}
 use Rattle.sc_rules.proofs.DerivedRun.{run_derived}
@@ -40,7 +39,7 @@ module _ (problem : Stated) where
   -- an empty clause that takes the next number
   last_empty : (book : Book) (c : Clause) (lines : List Line) → c.literals ≡ [] → IsEmptyAt problem (with_derived book c lines) (next_number problem book)
   last_empty book c lines h = some_so (numbered (numbered_clauses problem (with_derived book c lines)) (next_number problem book)) (λ d. d.literals ≡ []) c
-      (ap (λ (cs : List Clause). numbered cs (next_number problem book)) (grown problem book c lines) ∙ numbered_last (numbered_clauses problem book) c) h
+      (ap (λ (cs : List Clause). numbered cs (next_number problem book)) (grown problem book c lines) ∙ number_of_end (numbered_clauses problem book) c) h
 
   -- ---- processing
 
@@ -122,7 +121,7 @@ module _ (problem : Stated) where
   ends_with_goal opened opens p there book goal h k is = by h
     where
       stands : (x : Numbered) → Contains (input_clauses problem) x → StandsIn problem opened x
-      stands x at = numbered_append problem.inputs (map (λ (d : Derived). d.clause) opened.derived) x.number x.clause (input_stands problem x at)
+      stands x at = number_in_whole problem.inputs (map (λ (d : Derived). d.clause) opened.derived) x.number x.clause (input_stands problem x at)
 
       next : next_number problem opened ≡ length problem.inputs + 1
       next = ap (λ (ds : List Derived). length (all_clauses problem.inputs ds) + 1) opens.no_derived ∙ omega (arith, length-append problem.inputs [])
