@@ -22,6 +22,7 @@ pub mod DerivedBook
 pub mod DerivedRun
 pub mod GoalLaws
 pub mod PairLaws
+pub mod SiteLaws
 pub mod DerivationCases
 pub mod BinaryExample
 pub mod FactorExample

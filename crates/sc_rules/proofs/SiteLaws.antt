@@ -1,0 +1,133 @@
+-- Which tuples of numbers are sites of binary resolution and of factoring: those whose literals have the signs and unify.
+use Rattle.std.proofs.Common.{◌≡◌, ◌∙◌, sym, ap, subst, refl, ℕ, ◌<◌, List, [], ◌∷◌, not, map, Some, arith}
+use Rattle.std.specs.List.{Contains}
+use Rattle.sc_data.specs.declared.Literal.{Literal}
+use Rattle.sc_data.specs.declared.Clause.{Clause}
+use Rattle.sc_data.specs.declared.Numbered.{Numbered}
+use Rattle.sc_data.specs.declared.Pair.{Pair}
+use Rattle.sc_data.specs.Substitution.{Unify}
+use Rattle.sc_data.specs.JointInstance.{apart}
+use Rattle.sc_rules.specs.declared.site.BinarySite.{BinarySite}
+use Rattle.sc_rules.specs.declared.site.FactorSite.{FactorSite}
+use Rattle.sc_rules.specs.Pairing.{Place, literal_at, ArePairs, places_in, HaveOppositeSigns, HaveSameSigns}
+use Rattle.sc_rules.specs.Inference.{Inference, Resolving, Merging}
+use Rattle.sc_rules.specs.Resolution.{IsBinary, IsFactor}
+use Rattle.sc_rules.proofs.Enumerations.{all_of_one}
+use Rattle.sc_rules.proofs.PairLaws.{opposite_one}
+use Rattle.sc_rules.proofs.SimplifyLaws.{NumbersTell}
+use Rattle.sc_rules.proofs.StepLaws.{same_some}
+
+abbrev pair_of : Literal → Literal → Pair
+pair_of l m = record { left = l; right = m }
+
+-- the one pair of two places
+one_pair : (cs : List Clause) (m n : Place) (ps : List Pair) → ArePairs cs (m ∷ []) (n ∷ []) ps
+    → (l : Literal) × (r : Literal) × (ps ≡ pair_of l r ∷ []) × (literal_at cs m ≡ Some l) × (literal_at cs n ≡ Some r)
+one_pair cs m n [] h = absurd h
+one_pair cs m n (p ∷ ps) h = (p.left, p.right, (λ i. p ∷ h.2 i), h.0, h.1)
+
+-- ---- binary resolution
+
+-- literal a of the given clause and literal b of the partner, renamed apart, have opposite signs and unify
+pub record AreOpposed (given partner : Numbered) (a b : ℕ) : Type 0 where
+  pub left : Literal
+  pub right : Literal
+  pub left_there : literal_at (apart (given.clause ∷ partner.clause ∷ [])) (record { parent = 1; lit = a }) ≡ Some left
+  pub right_there : literal_at (apart (given.clause ∷ partner.clause ∷ [])) (record { parent = 2; lit = b }) ≡ Some right
+  pub signs : left.positive ≡ not right.positive
+  pub unify : Unify (pair_of left right ∷ [])
+
+abbrev pub binary_site : Numbered → ℕ → ℕ → BinarySite
+binary_site partner a b = record { partner = partner.number; given_lit = a; partner_lit = b }
+
+-- then they are a site
+pub binary_if : (given : Numbered) (usable : List Numbered) (partner : Numbered) (a b : ℕ) → Contains usable partner → AreOpposed given partner a b
+    → (i : Inference) × IsBinary given usable (binary_site partner a b) i
+binary_if given usable partner a b listed h = (
+  record { parents = given ∷ partner ∷ []; pairs = pair_of h.left h.right ∷ []; ending = Resolving (a ∷ []) (b ∷ []) },
+  record {
+    partner = partner;
+    listed = listed;
+    named = refl;
+    parents = refl;
+    pairs = (h.left_there, h.right_there, refl);
+    signs = opposite_one (pair_of h.left h.right) h.signs;
+    unify = h.unify;
+    ending = refl;
+  },
+)
+
+-- and only then
+pub binary_only_if : (given : Numbered) (usable : List Numbered) → NumbersTell usable → (partner : Numbered) (a b : ℕ) → Contains usable partner → (i : Inference)
+    → IsBinary given usable (binary_site partner a b) i → AreOpposed given partner a b
+binary_only_if given usable tell partner a b listed i h = subst (λ (p : Numbered). AreOpposed given p a b) same found
+  where
+    same : h.partner ≡ partner
+    same = tell h.partner partner h.listed listed h.named
+
+    there : ArePairs (apart (given.clause ∷ (h.partner).clause ∷ [])) (places_in 1 (a ∷ [])) (places_in 2 (b ∷ [])) i.pairs
+    there = subst (λ (ps : List Numbered). ArePairs (apart (map (λ (q : Numbered). q.clause) ps)) (places_in 1 (a ∷ [])) (places_in 2 (b ∷ [])) i.pairs) h.parents h.pairs
+
+    pair : (l : Literal) × (r : Literal) × (i.pairs ≡ pair_of l r ∷ []) × (literal_at (apart (given.clause ∷ (h.partner).clause ∷ [])) (record { parent = 1; lit = a }) ≡ Some l)
+        × (literal_at (apart (given.clause ∷ (h.partner).clause ∷ [])) (record { parent = 2; lit = b }) ≡ Some r)
+    pair = one_pair (apart (given.clause ∷ (h.partner).clause ∷ [])) (record { parent = 1; lit = a }) (record { parent = 2; lit = b }) i.pairs there
+
+    found : AreOpposed given h.partner a b
+    found = record {
+      left = pair.0;
+      right = pair.1;
+      left_there = pair.3;
+      right_there = pair.4;
+      signs = subst HaveOppositeSigns pair.2 h.signs 0 (pair_of pair.0 pair.1) (omega arith);
+      unify = subst Unify pair.2 h.unify;
+    }
+
+-- each site has a partner of the list
+pub binary_partner : (given : Numbered) (usable : List Numbered) (site : BinarySite) (i : Inference) → IsBinary given usable site i
+    → (partner : Numbered) × Contains usable partner × (site ≡ binary_site partner site.given_lit site.partner_lit)
+binary_partner given usable site i h = (h.partner, h.listed, λ k. record { partner = sym h.named k; given_lit = site.given_lit; partner_lit = site.partner_lit })
+
+-- ---- factoring
+
+-- literals a and b of the given clause, a the first, have the same sign and unify
+pub record AreFactored (given : Numbered) (a b : ℕ) : Type 0 where
+  pub order : a < b
+  pub left : Literal
+  pub right : Literal
+  pub left_there : literal_at (apart (given.clause ∷ [])) (record { parent = 1; lit = a }) ≡ Some left
+  pub right_there : literal_at (apart (given.clause ∷ [])) (record { parent = 1; lit = b }) ≡ Some right
+  pub signs : left.positive ≡ right.positive
+  pub unify : Unify (pair_of left right ∷ [])
+
+-- then they are a site
+pub factor_if : (given : Numbered) (a b : ℕ) → AreFactored given a b → (i : Inference) × IsFactor given (record { first = a; second = b }) i
+factor_if given a b h = (
+  record { parents = given ∷ []; pairs = pair_of h.left h.right ∷ []; ending = Merging b },
+  record {
+    order = h.order;
+    parents = refl;
+    pairs = (h.left_there, h.right_there, refl);
+    signs = all_of_one (λ (q : Pair). q.left.positive ≡ q.right.positive) (pair_of h.left h.right) h.signs;
+    unify = h.unify;
+    ending = refl;
+  },
+)
+
+-- and only then
+pub factor_only_if : (given : Numbered) (a b : ℕ) (i : Inference) → IsFactor given (record { first = a; second = b }) i → AreFactored given a b
+factor_only_if given a b i h = record {
+  order = h.order;
+  left = pair.0;
+  right = pair.1;
+  left_there = pair.3;
+  right_there = pair.4;
+  signs = subst HaveSameSigns pair.2 h.signs 0 (pair_of pair.0 pair.1) (omega arith);
+  unify = subst Unify pair.2 h.unify;
+}
+  where
+    there : ArePairs (apart (given.clause ∷ [])) (places_in 1 (a ∷ [])) (places_in 1 (b ∷ [])) i.pairs
+    there = subst (λ (ps : List Numbered). ArePairs (apart (map (λ (q : Numbered). q.clause) ps)) (places_in 1 (a ∷ [])) (places_in 1 (b ∷ [])) i.pairs) h.parents h.pairs
+
+    pair : (l : Literal) × (r : Literal) × (i.pairs ≡ pair_of l r ∷ []) × (literal_at (apart (given.clause ∷ [])) (record { parent = 1; lit = a }) ≡ Some l)
+        × (literal_at (apart (given.clause ∷ [])) (record { parent = 1; lit = b }) ≡ Some r)
+    pair = one_pair (apart (given.clause ∷ [])) (record { parent = 1; lit = a }) (record { parent = 1; lit = b }) i.pairs there
