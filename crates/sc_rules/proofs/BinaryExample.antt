@@ -27,28 +27,28 @@ use Rattle.sc_data.specs.declared.Step.TheVariants.{Input, Instance, Resolve}
 use Rattle.sc_rules.specs.Derivation.{AddsPart, AddsParts}
 use Rattle.sc_rules.proofs.DerivationCases.{adds_input, adds_whole, adds_instance, terms_of_one}
 
-abbrev a : Term
+abbrev pub a : Term
 a = App (record { 0 = 3 }) []
 
-abbrev lit : Bool → ℕ → Term → Literal
+abbrev pub lit : Bool → ℕ → Term → Literal
 lit positive pred t = record { positive = positive; pred = record { 0 = pred }; args = t ∷ [] }
 
-abbrev of : ℕ → List Literal → Numbered
+abbrev pub of : ℕ → List Literal → Numbered
 of n ls = record { number = n; clause = record { literals = ls } }
 
-abbrev one : Numbered
+abbrev pub one : Numbered
 one = of 1 (lit true 1 a ∷ [])
 
-abbrev given : Numbered
+abbrev pub given : Numbered
 given = of 2 (lit false 1 (Var 0) ∷ lit true 2 (Var 0) ∷ [])
 
-abbrev three : Numbered
+abbrev pub three : Numbered
 three = of 3 (lit false 2 a ∷ [])
 
 abbrev usable : List Numbered
 usable = one ∷ given ∷ three ∷ []
 
-abbrev site : ℕ → ℕ → BinarySite
+abbrev pub site : ℕ → ℕ → BinarySite
 site partner l = record { partner = partner; given_lit = l; partner_lit = 1 }
 
 -- ---- both are sites
@@ -56,7 +56,7 @@ site partner l = record { partner = partner; given_lit = l; partner_lit = 1 }
 abbrev s : Substitution
 s = value_of (a ∷ [])
 
-abbrev pair_with : Bool → ℕ → Pair
+abbrev pub pair_with : Bool → ℕ → Pair
 pair_with positive pred = record { left = lit (not positive) pred (Var 0); right = lit positive pred a }
 
 unifies : (positive : Bool) (pred : ℕ) → IsUnifier (pair_with positive pred ∷ []) s
@@ -65,7 +65,7 @@ unifies positive pred = unifier_of_one (pair_with positive pred) s (simp (under-
 apart_so : (positive : Bool) (pred : ℕ) → apart (given.clause ∷ (of 1 (lit positive pred a ∷ [])).clause ∷ []) ≡ given.clause ∷ (of 1 (lit positive pred a ∷ [])).clause ∷ []
 apart_so positive pred = simp (under-App, under-Var)
 
-is_first : IsBinary given usable (site 1 1) (record { parents = given ∷ one ∷ []; pairs = pair_with true 1 ∷ []; ending = Resolving (1 ∷ []) (1 ∷ []) })
+pub is_first : IsBinary given usable (site 1 1) (record { parents = given ∷ one ∷ []; pairs = pair_with true 1 ∷ []; ending = Resolving (1 ∷ []) (1 ∷ []) })
 is_first = record {
   partner = one;
   listed = (0, omega arith, refl);
@@ -200,7 +200,7 @@ sites limit some = record {
 abbrev part : Clause
 part = record { literals = lit false 1 a ∷ lit true 2 a ∷ [] }
 
-abbrev conclusion : Clause
+abbrev pub conclusion : Clause
 conclusion = record { literals = lit true 2 a ∷ [] }
 
 general : (t : Substitution) → IsUnifier (pair_with true 1 ∷ []) t → IsInstanceOf s t
@@ -225,7 +225,7 @@ lines_two = record { step = Input 2; clause = given.clause } ∷ record { step =
 abbrev lines_three : List Line
 lines_three = record { step = Input 2; clause = given.clause } ∷ record { step = Instance 1 (a ∷ []); clause = part } ∷ record { step = Input 1; clause = one.clause } ∷ []
 
-abbrev lines_four : List Line
+abbrev pub lines_four : List Line
 lines_four =
     record { step = Input 2; clause = given.clause }
     ∷ record { step = Instance 1 (a ∷ []); clause = part }

@@ -23,6 +23,7 @@ pub mod DerivedRun
 pub mod GoalLaws
 pub mod PairLaws
 pub mod SiteLaws
+pub mod OpposedLaws
 pub mod DerivationCases
 pub mod BinaryExample
 pub mod FactorExample
@@ -34,3 +35,4 @@ pub mod SimplifyExample
 pub mod ConflictExample
 pub mod ProcessExample
 pub mod RunExample
+pub mod SyllogismExample

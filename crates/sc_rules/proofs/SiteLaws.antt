@@ -17,11 +17,11 @@ use Rattle.sc_rules.proofs.PairLaws.{opposite_one}
 use Rattle.sc_rules.proofs.SimplifyLaws.{NumbersTell}
 use Rattle.sc_rules.proofs.StepLaws.{same_some}
 
-abbrev pair_of : Literal → Literal → Pair
+abbrev pub pair_of : Literal → Literal → Pair
 pair_of l m = record { left = l; right = m }
 
 -- the one pair of two places
-one_pair : (cs : List Clause) (m n : Place) (ps : List Pair) → ArePairs cs (m ∷ []) (n ∷ []) ps
+pub one_pair : (cs : List Clause) (m n : Place) (ps : List Pair) → ArePairs cs (m ∷ []) (n ∷ []) ps
     → (l : Literal) × (r : Literal) × (ps ≡ pair_of l r ∷ []) × (literal_at cs m ≡ Some l) × (literal_at cs n ≡ Some r)
 one_pair cs m n [] h = absurd h
 one_pair cs m n (p ∷ ps) h = (p.left, p.right, (λ i. p ∷ h.2 i), h.0, h.1)
@@ -58,29 +58,28 @@ binary_if given usable partner a b listed h = (
 )
 
 -- and only then
+pub binary_opposed : (given : Numbered) (usable : List Numbered) (site : BinarySite) (i : Inference) (h : IsBinary given usable site i) → AreOpposed given h.partner site.given_lit site.partner_lit
+binary_opposed given usable site i h = record {
+  left = pair.0;
+  right = pair.1;
+  left_there = pair.3;
+  right_there = pair.4;
+  signs = subst HaveOppositeSigns pair.2 h.signs 0 (pair_of pair.0 pair.1) (omega arith);
+  unify = subst Unify pair.2 h.unify;
+}
+  where
+    clauses : List Clause
+    clauses = apart (given.clause ∷ (h.partner).clause ∷ [])
+
+    pair : (l : Literal) × (r : Literal) × (i.pairs ≡ pair_of l r ∷ []) × (literal_at clauses (record { parent = 1; lit = site.given_lit }) ≡ Some l)
+        × (literal_at clauses (record { parent = 2; lit = site.partner_lit }) ≡ Some r)
+    pair = one_pair clauses (record { parent = 1; lit = site.given_lit }) (record { parent = 2; lit = site.partner_lit }) i.pairs
+        (subst (λ (ps : List Numbered). ArePairs (apart (map (λ (q : Numbered). q.clause) ps)) (places_in 1 (site.given_lit ∷ [])) (places_in 2 (site.partner_lit ∷ [])) i.pairs) h.parents h.pairs)
+
 pub binary_only_if : (given : Numbered) (usable : List Numbered) → NumbersTell usable → (partner : Numbered) (a b : ℕ) → Contains usable partner → (i : Inference)
     → IsBinary given usable (binary_site partner a b) i → AreOpposed given partner a b
-binary_only_if given usable tell partner a b listed i h = subst (λ (p : Numbered). AreOpposed given p a b) same found
-  where
-    same : h.partner ≡ partner
-    same = tell h.partner partner h.listed listed h.named
-
-    there : ArePairs (apart (given.clause ∷ (h.partner).clause ∷ [])) (places_in 1 (a ∷ [])) (places_in 2 (b ∷ [])) i.pairs
-    there = subst (λ (ps : List Numbered). ArePairs (apart (map (λ (q : Numbered). q.clause) ps)) (places_in 1 (a ∷ [])) (places_in 2 (b ∷ [])) i.pairs) h.parents h.pairs
-
-    pair : (l : Literal) × (r : Literal) × (i.pairs ≡ pair_of l r ∷ []) × (literal_at (apart (given.clause ∷ (h.partner).clause ∷ [])) (record { parent = 1; lit = a }) ≡ Some l)
-        × (literal_at (apart (given.clause ∷ (h.partner).clause ∷ [])) (record { parent = 2; lit = b }) ≡ Some r)
-    pair = one_pair (apart (given.clause ∷ (h.partner).clause ∷ [])) (record { parent = 1; lit = a }) (record { parent = 2; lit = b }) i.pairs there
-
-    found : AreOpposed given h.partner a b
-    found = record {
-      left = pair.0;
-      right = pair.1;
-      left_there = pair.3;
-      right_there = pair.4;
-      signs = subst HaveOppositeSigns pair.2 h.signs 0 (pair_of pair.0 pair.1) (omega arith);
-      unify = subst Unify pair.2 h.unify;
-    }
+binary_only_if given usable tell partner a b listed i h =
+    subst (λ (p : Numbered). AreOpposed given p a b) (tell h.partner partner h.listed listed h.named) (binary_opposed given usable (binary_site partner a b) i h)
 
 -- each site has a partner of the list
 pub binary_partner : (given : Numbered) (usable : List Numbered) (site : BinarySite) (i : Inference) → IsBinary given usable site i
