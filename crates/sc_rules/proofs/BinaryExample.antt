@@ -45,7 +45,7 @@ given = of 2 (lit false 1 (Var 0) ∷ lit true 2 (Var 0) ∷ [])
 abbrev pub three : Numbered
 three = of 3 (lit false 2 a ∷ [])
 
-abbrev usable : List Numbered
+abbrev pub usable : List Numbered
 usable = one ∷ given ∷ three ∷ []
 
 abbrev pub site : ℕ → ℕ → BinarySite
@@ -77,7 +77,7 @@ is_first = record {
   ending = refl;
 }
 
-is_second : IsBinary given usable (site 3 2) (record { parents = given ∷ three ∷ []; pairs = pair_with false 2 ∷ []; ending = Resolving (2 ∷ []) (1 ∷ []) })
+pub is_second : IsBinary given usable (site 3 2) (record { parents = given ∷ three ∷ []; pairs = pair_with false 2 ∷ []; ending = Resolving (2 ∷ []) (1 ∷ []) })
 is_second = record {
   partner = three;
   listed = (2, omega arith, refl);
@@ -172,7 +172,7 @@ with_itself x agreed =
     by (inr l) (inl r) = omega (arith, l.2, r.2, agreed.predicate)
     by (inr l) (inr r) = same_sign agreed.left agreed.right true agreed.signs l.1 r.1
 
-only_sites : (x : BinarySite) (i : Inference) → IsBinary given usable x i → (site 1 1 ≡ x) ⊎ (site 3 2 ≡ x)
+pub only_sites : (x : BinarySite) (i : Inference) → IsBinary given usable x i → (site 1 1 ≡ x) ⊎ (site 3 2 ≡ x)
 only_sites x i h = by (in_three one given three h.partner h.listed)
   where
     by : (one ≡ h.partner) ⊎ (given ≡ h.partner) ⊎ (three ≡ h.partner) → (site 1 1 ≡ x) ⊎ (site 3 2 ≡ x)
@@ -197,7 +197,7 @@ sites limit some = record {
 
 -- ---- the conclusion of the first site
 
-abbrev part : Clause
+abbrev pub part : Clause
 part = record { literals = lit false 1 a ∷ lit true 2 a ∷ [] }
 
 abbrev pub conclusion : Clause

@@ -36,3 +36,4 @@ pub mod ConflictExample
 pub mod ProcessExample
 pub mod RunExample
 pub mod SyllogismExample
+pub mod SyllogismRun

@@ -1,5 +1,5 @@
 -- Which tuples of numbers are sites of binary resolution and of factoring: those whose literals have the signs and unify.
-use Rattle.std.proofs.Common.{◌≡◌, ◌∙◌, sym, ap, subst, refl, ℕ, ◌<◌, List, [], ◌∷◌, not, map, Some, arith}
+use Rattle.std.proofs.Common.{◌≡◌, sym, subst, refl, ℕ, ◌<◌, List, [], ◌∷◌, not, map, Some, arith}
 use Rattle.std.specs.List.{Contains}
 use Rattle.sc_data.specs.declared.Literal.{Literal}
 use Rattle.sc_data.specs.declared.Clause.{Clause}
@@ -8,14 +8,12 @@ use Rattle.sc_data.specs.declared.Pair.{Pair}
 use Rattle.sc_data.specs.Substitution.{Unify}
 use Rattle.sc_data.specs.JointInstance.{apart}
 use Rattle.sc_rules.specs.declared.site.BinarySite.{BinarySite}
-use Rattle.sc_rules.specs.declared.site.FactorSite.{FactorSite}
 use Rattle.sc_rules.specs.Pairing.{Place, literal_at, ArePairs, places_in, HaveOppositeSigns, HaveSameSigns}
 use Rattle.sc_rules.specs.Inference.{Inference, Resolving, Merging}
 use Rattle.sc_rules.specs.Resolution.{IsBinary, IsFactor}
 use Rattle.sc_rules.proofs.Enumerations.{all_of_one}
 use Rattle.sc_rules.proofs.PairLaws.{opposite_one}
 use Rattle.sc_rules.proofs.SimplifyLaws.{NumbersTell}
-use Rattle.sc_rules.proofs.StepLaws.{same_some}
 
 abbrev pub pair_of : Literal → Literal → Pair
 pair_of l m = record { left = l; right = m }

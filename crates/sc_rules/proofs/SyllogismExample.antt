@@ -1,15 +1,13 @@
 -- Worked: the start and the first two turns of the run of p(a), -p(x0) | q(x0), -q(a) by binary resolution.
-use Rattle.std.proofs.Common.{◌≡◌, ◌≢◌, ◌∙◌, sym, ap, subst, refl, ℕ, zero, suc, ◌+◌, ◌<◌, ◌≤◌, ◌⊎◌, inl, inr, List, [], ◌∷◌, map, arith, true, false, not, Bool, Some, None, Option, length, nat_eq}
-use Rattle.std.specs.List.{Contains, All, list_any}
+use Rattle.std.proofs.Common.{◌≡◌, ◌≢◌, sym, subst, refl, ℕ, zero, suc, ◌<◌, ◌≤◌, ◌⊎◌, inl, inr, List, [], ◌∷◌, map, arith, true, false, None, length}
+use Rattle.std.specs.List.{Contains, list_any}
 use Rattle.sc_data.specs.declared.SymId.{SymId}
 use Rattle.sc_data.specs.declared.Term.{Term, Var}
 use Rattle.sc_data.specs.declared.Term.TheVariants.{App}
-use Rattle.sc_data.specs.declared.Literal.{Literal}
-use Rattle.sc_data.specs.declared.Clause.{Clause}
 use Rattle.sc_data.specs.declared.Numbered.{Numbered}
 use Rattle.sc_data.specs.Clause.{weight}
 use Rattle.sc_data.specs.Term.{term_weight, weight_step}
-use Rattle.sc_data.specs.Interpretation.{Meaning, Assignment, value, value_step, literal_holds}
+use Rattle.sc_data.specs.Interpretation.{Assignment, value, value_step, literal_holds}
 use Rattle.sc_data.proofs.TermLaws.{fold-Var, fold-App, weight-App}
 use Rattle.sc_data.proofs.TermSteps.{variables-Var, variables-App}
 use Rattle.sc_term.specs.declared.symbol.Symbol.{Symbol}
@@ -24,15 +22,15 @@ use Rattle.sc_interp.specs.declared.plain.Truth.{Truth}
 use Rattle.sc_interp.specs.declared.plain.Truth.TheVariants.{True, False}
 use Rattle.sc_rules.specs.declared.row.Cause.TheVariants as cause
 use Rattle.sc_rules.specs.declared.row.GivenRow.{GivenRow}
-use Rattle.sc_rules.specs.Order.{none, taken, passed, IsBefore, IsLeast}
-use Rattle.sc_rules.specs.Book.{Book, weight_in}
+use Rattle.sc_rules.specs.Order.{none, taken, passed, IsBefore}
+use Rattle.sc_rules.specs.Book.{Book}
 use Rattle.sc_rules.specs.Conflict.{Conflicts}
 use Rattle.sc_rules.specs.Start.{Starts, EndsStart, input_clauses}
-use Rattle.sc_rules.specs.Selection.{IsGuide, Selects, IsAny, by_weight, opening_name}
+use Rattle.sc_rules.specs.Selection.{IsGuide, Selects, by_weight, opening_name}
 use Rattle.sc_rules.specs.Sites.{Site, Binary, Factor, Hyper, Ur, ParaFrom, ParaInto, IsSite, AreSites}
 use Rattle.sc_rules.specs.WorkList.{Done, done}
 use Rattle.sc_rules.specs.Turn.{Run, Infer}
-use Rattle.sc_rules.specs.Run.{Goes, started}
+use Rattle.sc_rules.specs.Run.{Goes}
 use Rattle.sc_rules.proofs.OrderLaws.{not_before_itself}
 use Rattle.sc_rules.proofs.Enumerations.{in_one, in_two, in_three, all_of_one}
 use Rattle.sc_rules.proofs.SiteLaws.{AreOpposed, binary_opposed}
@@ -72,7 +70,7 @@ opened = record { derived = []; usable = []; sos = one ∷ given ∷ three ∷ [
 
 -- ---- the start ends nothing
 
-not_unit : (n m : Numbered) (made : _) → Conflicts n m made → given ≡ m → ⊥
+pub not_unit : (n m : Numbered) (made : _) → Conflicts n m made → given ≡ m → ⊥
 not_unit n m made h e = let unit = subst (λ (x : Numbered). length x.clause.literals ≡ 1) (sym e) h.unit_m in omega (arith, unit)
 
 at_one : ¬ EndsStart problem one
@@ -233,7 +231,7 @@ nothing_three (ParaInto site) h = let bad : false ≡ true = h.0 in cc
 
 -- ---- two turns
 
-abbrev row : ℕ → ℕ → Truth → GivenRow
+abbrev pub row : ℕ → ℕ → Truth → GivenRow
 row turn number truth = record { turn = turn; number = number; cause = cause.Weight; name = opening_name; truth = truth; lengths = 0 ∷ [] }
 
 abbrev pub before_one : Run
