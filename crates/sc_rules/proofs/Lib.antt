@@ -37,3 +37,4 @@ pub mod ProcessExample
 pub mod RunExample
 pub mod SyllogismExample
 pub mod SyllogismRun
+pub mod SyllogismProof

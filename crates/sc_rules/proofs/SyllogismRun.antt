@@ -152,10 +152,10 @@ lines_one = record { step = Input 4; clause = conclusion } ∷ []
 abbrev lines_two : List Line
 lines_two = record { step = Input 4; clause = conclusion } ∷ record { step = Input 3; clause = three.clause } ∷ []
 
-abbrev lines_three : List Line
+abbrev pub lines_three : List Line
 lines_three = record { step = Input 4; clause = conclusion } ∷ record { step = Input 3; clause = three.clause } ∷ record { step = Resolve 1 1 2 1; clause = record { literals = [] } } ∷ []
 
-abbrev false_clause : Derived
+abbrev pub false_clause : Derived
 false_clause = record { clause = record { literals = [] }; lines = lines_three }
 
 abbrev last_inference : Inference
@@ -244,7 +244,7 @@ given_book = record { derived = []; usable = now_usable; sos = []; passive = [];
 abbrev kept_book : Book
 kept_book = with_kept problem given_book conclusion lines_four 3
 
-abbrev new_book : Book
+abbrev pub new_book : Book
 new_book = with_derived kept_book (false_clause.clause) lines_three
 
 processed : Processes problem given_book lines_four 3 new_book (only_fate (Empty 5))
@@ -273,7 +273,7 @@ processed = record {
 
 -- ---- the third turn, and the run
 
-abbrev after_three : Run
+abbrev pub after_three : Run
 after_three = record { book = new_book; given = row 1 1 False ∷ row 2 3 True ∷ row 3 2 True ∷ []; ended = Some Proof; goal = Some 5 }
 
 turn_three : Infer problem 3 after_two ([] ∷ []) after_three
