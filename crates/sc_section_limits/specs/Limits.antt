@@ -12,10 +12,12 @@ use Rattle.sc_written.specs.TextWords.{is_large_variable}
 use Rattle.sc_written.specs.TextPosition.{TextPosition, Formula, ended_name, in_term_place}
 use Rattle.sc_written.specs.TextLimits.{is_unknown, name_told, variable_told, number_told, text_bounds}
 
+-- the limits on the name that ends before the last token, and on the number that it is
 abbrev pub limits_before : List Symbol → List (Limit TextPosition)
 limits_before symbols =
     record { kind = UnknownName; told = name_told symbols } ∷ record { kind = OutOfRange; told = variable_told } ∷ record { kind = OutOfRange; told = number_told } ∷ []
 
+-- the limit that a clause or term so far passes
 abbrev pub fault_in_formula : List Token → Option Place
 fault_in_formula tokens =
     passed (

@@ -17,6 +17,7 @@ use Rattle.sc_section_limits.specs.declared.names.EndedName.{EndedName}
 
 -- ---- words
 
+-- the word that a token is
 abbrev pub word_of : Token → Option Name
 word_of (Word at text) = Some (record { at = at; text = text })
 word_of (Punctuation at s) = None
@@ -26,25 +27,30 @@ word_of (Refused at kind) = None
 abbrev pub word_at : List Token → ℕ → Option Name
 word_at tokens n = option_and_then word_of (slice_get tokens n)
 
--- Tokens are read backwards here.
+-- Tokens are read backwards in what follows.
+
+-- the first token, if it is a word
 abbrev pub first_word : List Token → Option Name
 first_word [] = None
 first_word (t ∷ tokens) = word_of t
 
--- of the parentheses that are open, the innermost first, the word before each
+-- without the innermost
 abbrev pub without_first : {X : Type 0} → List X → List X
 without_first [] = []
 without_first (w ∷ ws) = ws
 
+-- what stands before the parentheses that are open, behind one token more; `before` stands before that token
 abbrev pub words_behind : {X : Type 0} → X → Token → List X → List X
 words_behind before t words = if is_sign Open t then before ∷ words else if is_sign Close t then without_first words else words
 
+-- of the parentheses that are open, the innermost first, the word before each, if it is one
 abbrev pub open_words : List Token → List (Option Name)
 open_words [] = []
 open_words (t ∷ tokens) = words_behind (first_word tokens) t (open_words tokens)
 
 -- ---- names
 
+-- a word with so many arguments
 abbrev pub applied_to : ℕ → Name → Occurrence
 applied_to arity w = record { at = w.at; name = w.text; arity = arity }
 
@@ -71,9 +77,11 @@ name_ended tokens of.Nothing = None
 name_ended tokens (of.Word n) = option_and_then name_alone (word_at tokens n)
 name_ended tokens (of.Applied n arity) = option_map (applied_to arity) (word_at tokens n)
 
+-- a name, as the definitions of reading have it
 abbrev pub as_occurrence : EndedName → Occurrence
 as_occurrence n = record { at = n.at; name = n.text.now; arity = n.arity }
 
+-- the symbol of a name
 abbrev pub symbol_in : Role → Occurrence → Symbol
 symbol_in role o = record { name = o.name; arity = o.arity; role = role }
 
@@ -81,7 +89,7 @@ symbol_in role o = record { name = o.name; arity = o.arity; role = role }
 abbrev pub begins_variable : List ℕ → Bool
 begins_variable text = begins (λ b. nat_le 117 b && nat_le b 122) text
 
--- digits that stand behind an `x`, some
+-- the digits of a word of `x` and digits, of which there are some
 pub record IsDigits (text digits : List ℕ) : Type 0 where
   pub are : digits ≡ digits_behind_x text
   pub some : is_some_digits (digits_behind_x text) ≡ true

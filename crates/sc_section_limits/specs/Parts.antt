@@ -7,22 +7,26 @@ use Rattle.sc_written.specs.TextPosition.{Formula, behind_first, is_table_row, i
 use Rattle.sc_section_limits.specs.declared.part.SentencePart.{SentencePart}
 use Rattle.sc_section_limits.specs.declared.part.SentencePart.TheVariants.{Start, First, FirstOpen, RowName, Row, Step, Instance, Terms, Clause}
 
--- what stands behind the last full stop
+-- what stands behind the last full stop, or all, behind the earlier tokens
 abbrev pub sentence_behind : List Token → List Token → List Token
 sentence_behind earlier [] = earlier
 sentence_behind earlier (t ∷ tokens) = sentence_behind (if is_sign Stop t then [] else earlier ++ t ∷ []) tokens
 
+-- the sentence so far
 abbrev pub sentence_so_far : List Token → List Token
 sentence_so_far tokens = sentence_behind [] tokens
 
 -- ---- behind a sentence so far
 
+-- behind one token
 abbrev pub part_of_first : Token → SentencePart
 part_of_first t = if is_table_row (t ∷ []) then RowName else if is_sign Colon t then Clause else if is_sign Open t then FirstOpen else First
 
+-- behind several, none of which is a `:`
 abbrev pub part_of_step : List Token → SentencePart
 part_of_step sentence = if is_instance sentence then elim (behind_first (is_sign Open) sentence) [ Some tokens ↦ Terms | None ↦ Instance ] else Step
 
+-- behind any
 abbrev pub part_of : List Token → SentencePart
 part_of [] = Start
 part_of (t ∷ []) = part_of_first t
@@ -50,15 +54,19 @@ pub record Stands (sentence : List Token) (p : SentencePart) (tokens : List Toke
 
 -- ---- with one token more
 
+-- behind the second token
 abbrev pub behind_second : Bool → Token → SentencePart
 behind_second is_open t = if is_sign Colon t then Clause else if is_word (codes "instance") t then (if is_open then Terms else Instance) else Step
 
+-- behind the `:`, or elsewhere
 abbrev pub behind_colon : SentencePart → Token → SentencePart
 behind_colon otherwise t = if is_sign Colon t then Clause else otherwise
 
+-- behind a token before the `(` of an `instance` step
 abbrev pub behind_instance : Token → SentencePart
 behind_instance t = behind_colon (if is_sign Open t then Terms else Instance) t
 
+-- where the next token stands, with one token more
 abbrev pub part_with : Token → SentencePart → SentencePart
 part_with t Start = part_of_first t
 part_with t First = behind_second false t

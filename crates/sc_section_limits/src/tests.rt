@@ -21,40 +21,69 @@ fn signature(alloc: Global) -> Result<Signature, Fail> {
     Ok(sig)
 }
 
+/// A text with its middle so many times.
+fn repeated(alloc: Global, head: &str, middle: &str, n: usize, tail: &str) -> Result<String, Fail> {
+    let mut text = String::new(alloc);
+    text.push_str(head)?;
+    for _ in 0..n {
+        text.push_str(middle)?;
+    }
+    text.push_str(tail)?;
+    Ok(text)
+}
+
 #[test]
 fn each_limit_is_told_at_its_token_and_byte(rt: HostRuntime) -> Result<(), Fail> {
     use InputKind::{OutOfRange, TooDeep, TooHeavy, TooMany, UnknownName};
     let alloc = rt.alloc();
     let sig = signature(alloc)?;
-    for (text, want) in [
-        ("proof. 1 input 1 : p(b)", Some((9, 21, UnknownName))),
-        ("proof. 1 input 1 : p(p(a)).", Some((12, 21, UnknownName))),
-        ("proof. 1 input 1 : f(a,a).", Some((12, 19, UnknownName))),
-        ("proof. 1 input 1 : p(f(a)).", Some((12, 21, UnknownName))),
-        ("proof. 1 input 1 : p(y).", Some((9, 21, UnknownName))),
-        ("proof. 1 input 1 : a=x.", Some((9, 21, UnknownName))),
-        ("proof. 1 input 1 : b=a.", Some((7, 19, UnknownName))),
+    for (head, middle, n, tail, want) in [
         (
-            "proof. 1 instance 1 (x65536) : $F. end_of_proof.",
-            Some((7, 21, OutOfRange)),
+            "1 input 1 : ",
+            "-",
+            1,
+            "p(p(a)).",
+            Some((11, 15, UnknownName)),
+        ),
+        ("1 input 1 : b", "=", 1, "a.", Some((5, 12, UnknownName))),
+        (
+            "1 instance 1 (",
+            "a,",
+            2,
+            "x65536)",
+            Some((9, 18, OutOfRange)),
         ),
         (
-            "proof. 1 input 4294967296 : $F. end_of_proof.",
-            Some((4, 15, OutOfRange)),
+            "1 input ",
+            "4294967296",
+            1,
+            " : $F.",
+            Some((2, 8, OutOfRange)),
+        ),
+        ("1 input 1 : p(f(a", ",a", 8, "", Some((23, 31, TooMany))),
+        (
+            "1 input 1 : ",
+            "a=a|",
+            3334,
+            "",
+            Some((13_337, 13_345, TooHeavy)),
         ),
         (
-            "proof. 1 instance 1 (99999999999) : $F. end_of_proof.",
-            Some((7, 21, UnknownName)),
+            "1 instance 1 (",
+            "f(a,",
+            256,
+            "a",
+            Some((1026, 1036, TooDeep)),
         ),
         (
-            "proof. 1 input 1 : p(f(a,a,a,a,a,a,a,a,a",
-            Some((25, 38, TooMany)),
-        ),
-        (
-            "proof. 1 instance 1 (a,x12,f(a,f(x0,a))) : p(f(a,x65535)) | -q(a) | (a=a). 2 input 2 : $F.end_of_proof.",
+            "1 instance 1 (",
+            "f(a,x1),",
+            5000,
+            "a) : p(f(a,x0)) | -(a=a).",
             None,
         ),
     ] {
+        let text = repeated(alloc, head, middle, n, tail)?;
         let got = first_limit(alloc, &sig, scan(alloc, text.as_bytes(), 0)?.as_slice())?;
         assert_eq!(rt; got.map(|p| (p.token, p.place.at, p.place.kind)), want);
     }
