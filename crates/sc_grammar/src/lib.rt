@@ -20,3 +20,4 @@ mod words;
 
 pub use clause::read_clause;
 pub use item::{Item, Name, read_item, read_items, read_problem};
+pub use side::read_side;
