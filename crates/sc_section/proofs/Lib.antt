@@ -1,0 +1,5 @@
+pub mod DigitByDigit
+pub mod TermsOfNames
+pub mod Sequences
+pub mod PrefixOfSteps
+pub mod PrefixOfSections

@@ -1,6 +1,7 @@
 //! Reading the lines of a section.
 
 ghost use Rattle.std.specs.Prelude.{◌≡◌, ◌<◌, ◌-◌, ◌^◌, length, codes};
+ghost use Rattle.sc_reading.specs.ProblemGrammar.{next_is_word};
 ghost use Rattle.sc_scan.specs.Told.{Gives};
 ghost use Rattle.sc_written.specs.ProofGrammar as of;
 ghost use Rattle.sc_section.specs.Clipped.{clipped_line, clipped_lines, seen_by};
@@ -37,7 +38,7 @@ fn read_line<'a>(
 }
 
 fn at_end_of_proof(tokens: &[Token]) -> bool
-    ensures { result ≡ of.next_is_word (codes "end_of_proof") tokens.now }
+    ensures { result ≡ next_is_word (codes "end_of_proof") tokens.now }
 {
     next_is_word(END_OF_PROOF.as_bytes(), tokens)
 }

@@ -1,6 +1,7 @@
 //! Reading a step.
 
 ghost use Rattle.std.specs.Prelude.{◌≡◌, map, length, codes};
+ghost use Rattle.sc_data.specs.declared.Step.TheVariants.{Merge, Flip};
 ghost use Rattle.sc_reading.specs.Reader as spec;
 ghost use Rattle.sc_reading.specs.ClauseGrammar as grammar;
 ghost use Rattle.sc_reading.specs.declared.token.Sign.TheVariants.{Comma};
@@ -88,19 +89,13 @@ fn instance_step<'a>(
     Ok((Step::Instance { of, terms }, rest))
 }
 
-/// The number of a line, and that of a literal of it.
-fn line_and_literal(tokens: &[Token]) -> Result<((u32, u32), &[Token]), Stop>
-{
-    let (line, rest) = read_number(tokens)?;
-    let (literal, rest) = read_number(rest)?;
-    Ok(((line, literal), rest))
-}
-
 fn resolve_step(tokens: &[Token]) -> Result<(Step, &[Token]), Stop>
     ensures { Gives (λ x. (x.0, x.1.now)) result (seen_by clipped_step (of.resolve_step tokens.now)) }
 {
-    let ((left, left_lit), rest) = line_and_literal(tokens)?;
-    let ((right, right_lit), rest) = line_and_literal(rest)?;
+    let (left, rest) = read_number(tokens)?;
+    let (left_lit, rest) = read_number(rest)?;
+    let (right, rest) = read_number(rest)?;
+    let (right_lit, rest) = read_number(rest)?;
     let step = Step::Resolve {
         left,
         left_lit,
@@ -113,23 +108,27 @@ fn resolve_step(tokens: &[Token]) -> Result<(Step, &[Token]), Stop>
 fn merge_step(tokens: &[Token]) -> Result<(Step, &[Token]), Stop>
     ensures { Gives (λ x. (x.0, x.1.now)) result (seen_by clipped_step (of.of_line_and_literal (λ j a. Merge j a) tokens.now)) }
 {
-    let ((of, lit), rest) = line_and_literal(tokens)?;
+    let (of, rest) = read_number(tokens)?;
+    let (lit, rest) = read_number(rest)?;
     Ok((Step::Merge { of, lit }, rest))
 }
 
 fn flip_step(tokens: &[Token]) -> Result<(Step, &[Token]), Stop>
     ensures { Gives (λ x. (x.0, x.1.now)) result (seen_by clipped_step (of.of_line_and_literal (λ j a. Flip j a) tokens.now)) }
 {
-    let ((of, lit), rest) = line_and_literal(tokens)?;
+    let (of, rest) = read_number(tokens)?;
+    let (lit, rest) = read_number(rest)?;
     Ok((Step::Flip { of, lit }, rest))
 }
 
 fn para_step(alloc: Global, tokens: &[Token]) -> Result<(Step, &[Token]), Stop>
     ensures { Gives (λ x. (x.0, x.1.now)) result (seen_by clipped_step (of.para_step tokens.now)) }
 {
-    let ((from, from_lit), rest) = line_and_literal(tokens)?;
+    let (from, rest) = read_number(tokens)?;
+    let (from_lit, rest) = read_number(rest)?;
     let (side, rest) = a_side(rest)?;
-    let ((into, into_lit), rest) = line_and_literal(rest)?;
+    let (into, rest) = read_number(rest)?;
+    let (into_lit, rest) = read_number(rest)?;
     let (path, rest) = bracketed_path(alloc, rest)?;
     let step = Step::Para {
         from,

@@ -6,10 +6,11 @@ ghost use Rattle.sc_reading.specs.Reader as spec;
 ghost use Rattle.sc_reading.specs.ClauseGrammar as grammar;
 ghost use Rattle.sc_reading.specs.declared.token.Sign.TheVariants.{Comma};
 ghost use Rattle.sc_scan.specs.Told.{Gives};
+ghost use Rattle.sc_scan.specs.declared.stop.Stop.TheVariants.{Memory};
 ghost use Rattle.sc_reading.specs.Numbering.{terms_of};
 ghost use Rattle.sc_written.specs.ProofGrammar as of;
 ghost use Rattle.sc_section.specs.Clipped.{clipped_term, seen_by};
-ghost use Rattle.sc_section.specs.Numerals.{clipped_variable};
+ghost use Rattle.sc_section.specs.Numerals.{clipped_variable, variable_named, clipped_value};
 
 use crate::number::{clipped, numeral_value};
 use sc_data::Term;
@@ -28,16 +29,42 @@ impl Numbering for TextVariables {
     ghost number = { λ v. clipped_variable };
 
     fn number(&self, occurrence: &Occurrence) -> Option<u32> {
-        match occurrence.name.as_slice() {
-            [b'x', digits @ ..] if occurrence.arity == 0 && !digits.is_empty() => {
-                numeral_value(digits).map(clipped)
-            }
-            _ => None,
+        if occurrence.arity == 0 {
+            variable_named(occurrence.name.as_slice())
+        } else {
+            None
         }
     }
 }
 
-pub fn memory(_: OutOfMemory) -> Stop {
+/// The number of the variable that a word is: one or more digits behind `x`.
+fn variable_named(name: &[u8]) -> Option<u32>
+    ensures { result ≡ variable_named name.now }
+{
+    match name {
+        [] | [_] => None,
+        [first, digits @ ..] => {
+            if *first == b'x' {
+                clipped_value(digits)
+            } else {
+                None
+            }
+        }
+    }
+}
+
+fn clipped_value(digits: &[u8]) -> Option<u32>
+    ensures { result ≡ clipped_value digits.now }
+{
+    match numeral_value(digits) {
+        Some(value) => Some(clipped(value)),
+        None => None,
+    }
+}
+
+pub fn memory(_: OutOfMemory) -> Stop
+    ensures { result ≡ Memory }
+{
     Stop::Memory
 }
 
@@ -61,6 +88,7 @@ fn some_terms<'a>(
     sig: &Signature,
     tokens: &'a [Token],
 ) -> Result<(Items<Term>, &'a [Token]), Stop>
+    ensures { Gives (λ x. (x.0, x.1.now)) result (seen_by (flat_map (terms_of clipped_variable sig.now)) (spec.separated Comma grammar.side (length tokens.now) tokens.now)) }
 {
     let mut front = Items::new(alloc);
     let mut rest = tokens;
