@@ -1,5 +1,7 @@
 pub mod DigitByDigit
-pub mod TermsOfNames
 pub mod Sequences
+pub mod TermsOfNames
+pub mod Bracketed
+pub mod LinesInTurn
 pub mod PrefixOfSteps
 pub mod PrefixOfSections

@@ -1,5 +1,5 @@
 -- One or more, with a sign between, each of which gives some of a list.
-use Rattle.std.proofs.Common.{◌≡◌, ◌∙◌, sym, ap, refl, subst, ℕ, suc, ◌+◌, ◌-◌, true, false, List, [], ◌∷◌, ◌++◌, append_assoc, append-nil, Result, Ok, Err}
+use Rattle.std.proofs.Common.{◌≡◌, ◌∙◌, sym, ap, refl, subst, ℕ, suc, ◌+◌, ◌-◌, Bool, true, false, List, [], ◌∷◌, ◌++◌, append_assoc, append-nil, Result, Ok, Err}
 use Rattle.sc_reading.specs.declared.token.Token.{Token}
 use Rattle.sc_reading.specs.declared.token.Sign.{Sign}
 use Rattle.sc_reading.specs.Token.{is_sign}
@@ -39,26 +39,46 @@ fails_as f h read Memory k = tt
 fails_as f h (Ok r) (At left kind) k = absurd cc
 fails_as f h (Err e') (At left kind) k = k
 
+-- ---- failures
+
+pub gives_err : {X A : Type 0} (view : X → A × List Token) (result : Result X Stop) (e : Stop) (read : Read A) → result ≡ Err e → Fails e read → Gives view result read
+gives_err view (Ok x) e read is h = absurd cc
+gives_err view (Err d) e read is h = let same : e ≡ d = cc in subst (λ (s : Stop). Fails s read) same h
+
+-- what is read well, and what fails then
+pub fails_then : {A B : Type 0} (e : Stop) (read : Read A) (x : A) (after : List Token) (k : A × List Token → Read B) → read ≡ Ok (x, after) → Fails e (k (x, after)) → Fails e (read >>= k)
+fails_then {A} e read x after k is h = subst (λ (r : Read A). Fails e (r >>= k)) (sym is) h
+
+-- the same where it is only known as it is seen
+pub fails_behind : {A B C : Type 0} (e : Stop) (f : A → C) (read : Read A) (y : C) (after : List Token) (k : A × List Token → Read B)
+    → seen_by f read ≡ Ok (y, after) → ((x : A) → Fails e (k (x, after))) → Fails e (read >>= k)
+fails_behind e f read y after k is h = let w = was_read f read y after is in fails_then e read w.value after k w.was (h w.value)
+
 -- ---- one or more
 
-others_of : {X : Type 0} (b : _) (x y : X) → b ≡ false → elim b [ true ↦ x | false ↦ y ] ≡ y
-others_of true x y e = absurd cc
-others_of false x y e = refl
+pub first_of_two : {X : Type 0} (b : Bool) (x y : X) → b ≡ true → elim b [ true ↦ x | false ↦ y ] ≡ x
+first_of_two true x y e = refl
+first_of_two false x y e = absurd cc
 
-module _ {A B : Type 0} (between : Sign) (one : List Token → Read A) (f : A → List B) (g : List A → List B) (none : g [] ≡ []) (more : (x : A) (xs : List A) → g (x ∷ xs) ≡ f x ++ g xs) where
-  one_in_front : (front new : List B) (x : A) (r : Read (List A)) → new ≡ front ++ f x
+pub second_of_two : {X : Type 0} (b : Bool) (x y : X) → b ≡ false → elim b [ true ↦ x | false ↦ y ] ≡ y
+second_of_two true x y e = absurd cc
+second_of_two false x y e = refl
+
+module _ {A B : Type 0} (f : A → List B) (g : List A → List B) (more : (x : A) (xs : List A) → g (x ∷ xs) ≡ f x ++ g xs) where
+  pub one_in_front : (front new : List B) (x : A) (r : Read (List A)) → new ≡ front ++ f x
       → behind new (seen_by g r) ≡ behind front (seen_by g (r >>= λ others. Ok (x ∷ others.0, others.1)))
   one_in_front front new x (Err e') e = refl
   one_in_front front new x (Ok r) e =
       ap (λ (ys : List B). Ok (ys, r.1)) (ap (λ (ys : List B). ys ++ g r.0) e ∙ append_assoc front (f x) (g r.0) ∙ ap (λ (ys : List B). front ++ ys) (sym (more x r.0)))
 
+module _ {A B : Type 0} (between : Sign) (one : List Token → Read A) (f : A → List B) (g : List A → List B) (none : g [] ≡ []) (more : (x : A) (xs : List A) → g (x ∷ xs) ≡ f x ++ g xs) where
   -- one read, and the sign behind it, of those that `most` still allows
   pub gathers_on : (most count : ℕ) (front new ys : List B) (tokens after rest : List Token) → most - count ≡ suc (most - (count + 1)) → new ≡ front ++ ys
       → seen_by f (one tokens) ≡ Ok (ys, after) → next_is (is_sign between) after ≡ true → the_sign between after ≡ Ok (tt, rest)
       → behind new (seen_by g (separated between one (most - (count + 1)) rest)) ≡ behind front (seen_by g (separated between one (most - count) tokens))
   gathers_on most count front new ys tokens after rest still grown e b s =
       let w = was_read f (one tokens) ys after e in
-      one_in_front front new w.value (separated between one (most - (count + 1)) rest) (grown ∙ ap (λ (ys : List B). front ++ ys) w.is)
+      one_in_front f g more front new w.value (separated between one (most - (count + 1)) rest) (grown ∙ ap (λ (ys : List B). front ++ ys) w.is)
       ∙ sym (ap (λ (k : ℕ). behind front (seen_by g (separated between one k tokens))) still
       ∙ ap (λ (r : Read (List A)). behind front (seen_by g r)) (one_more between one (most - (count + 1)) tokens w.value after rest w.was b s))
 
@@ -79,7 +99,7 @@ module _ {A B : Type 0} (between : Sign) (one : List Token → Read A) (f : A �
       let single : g (w.value ∷ []) ≡ ys = more w.value [] ∙ ap (λ (ys : List B). f w.value ++ ys) none ∙ append-nil (f w.value) ∙ sym w.is in
       ap (λ (k : ℕ). behind front (seen_by g (separated between one k tokens))) still
       ∙ ap (λ (r : Read A). behind front (seen_by g (r >>= after_one m))) w.was
-      ∙ ap (λ (r : Read (List A)). behind front (seen_by g r)) (others_of (next_is (is_sign between) after) (the_sign between after >>= λ s. separated between one m s.1 >>= λ others. Ok (w.value ∷ others.0, others.1)) (Ok (w.value ∷ [], after)) b)
+      ∙ ap (λ (r : Read (List A)). behind front (seen_by g r)) (second_of_two (next_is (is_sign between) after) (the_sign between after >>= λ s. separated between one m s.1 >>= λ others. Ok (w.value ∷ others.0, others.1)) (Ok (w.value ∷ [], after)) b)
       ∙ ap (λ (ys : List B). Ok (front ++ ys, after)) single ∙ ap (λ (ys : List B). Ok (ys, after)) (sym grown)
 
   -- where reading the next fails
@@ -92,8 +112,4 @@ module _ {A B : Type 0} (between : Sign) (one : List Token → Read A) (f : A �
       ap (λ (k : ℕ). behind front (seen_by g (separated between one k tokens))) (sym still) ∙ all in
       let fails = fails_on e (one tokens >>= after_one m >>= λ r. Ok (g r.0, r.1)) (λ r. Ok (front ++ r.0, r.1))
           (fails_on e (one tokens >>= after_one m) (λ r. Ok (g r.0, r.1)) (fails_on e (one tokens) (after_one m) (fails_unseen f (one tokens) e h))) in
-      by result is (subst (Fails e) step fails)
-    where
-      by : (result : Result X Stop) → result ≡ Err e → Fails e whole → Gives view result whole
-      by (Ok x) is h = absurd cc
-      by (Err d) is h = let same : e ≡ d = cc in subst (λ (s : Stop). Fails s whole) same h
+      gives_err view result e whole is (subst (Fails e) step fails)

@@ -1,5 +1,5 @@
 -- Terms of names whose variables are clipped are the clipped terms of these names.
-use Rattle.std.proofs.Common.{◌≡◌, ◌∙◌, sym, ap, refl, ℕ, List, [], ◌∷◌, ◌++◌, map, take, drop, Option, Some, None, Ok}
+use Rattle.std.proofs.Common.{◌≡◌, ◌∙◌, sym, ap, refl, ℕ, List, [], ◌∷◌, ◌++◌, map, take, drop, Option, Some, None, Ok, Err, false, length}
 use Rattle.std.specs.Prelude.{option_map, flat_map}
 use Rattle.std.proofs.lemmas.List.{take-map, drop-map, map-append}
 use Rattle.std.proofs.lemmas.List.Concat.{flat_map-cons}
@@ -10,17 +10,19 @@ use Rattle.sc_data.proofs.TermLaws.{fold-Var, fold-App}
 use Rattle.sc_data.specs.declared.Clause.{Clause}
 use Rattle.sc_term.specs.declared.symbol.Symbol.{Symbol}
 use Rattle.sc_reading.specs.declared.token.Token.{Token}
-use Rattle.sc_reading.specs.declared.token.Sign.TheVariants.{Stop}
-use Rattle.sc_reading.specs.Reader.{Read, ◌>>=◌, the_sign}
-use Rattle.sc_reading.specs.ClauseGrammar.{clause}
+use Rattle.sc_reading.specs.declared.token.Sign.TheVariants.{Close, Comma, Stop}
+use Rattle.sc_reading.specs.Token.{is_sign}
+use Rattle.sc_reading.specs.Reader.{Read, ◌>>=◌, next_is, the_sign, separated}
+use Rattle.sc_reading.specs.ClauseGrammar.{side, clause}
 use Rattle.sc_reading.specs.declared.written.Occurrence.{Occurrence}
 use Rattle.sc_reading.specs.declared.written.WrittenLiteral.{WrittenLiteral}
 use Rattle.sc_reading.specs.Syntax.{Side, WrittenClause}
 use Rattle.sc_reading.specs.Numbering.{function_at, symbol_number, term_at, terms_of, literal_of}
 use Rattle.sc_written.specs.TextWords.{text_variable}
-use Rattle.sc_written.specs.ProofGrammar.{text_clause}
+use Rattle.sc_written.specs.ProofGrammar.{text_clause, text_terms}
 use Rattle.sc_section.specs.Clipped.{clipped, clipped_at, clipped_term, clipped_literal, clipped_clause, seen_by}
 use Rattle.sc_section.specs.Numerals.{clipped_variable}
+use Rattle.sc_section.proofs.Sequences.{second_of_two}
 
 abbrev term_from : Option ℕ → SymId → List Term → Term
 term_from v f args = elim v [ Some n ↦ Var n | None ↦ App f args ]
@@ -62,3 +64,16 @@ clause_made symbols tokens rest after written made read stop is =
     ap (λ (r : Read WrittenClause). seen_by clipped_clause (r >>= with_stop symbols)) read
     ∙ ap (λ (r : Read (Unit {0})). seen_by clipped_clause (r >>= λ s. Ok (record { literals = map (literal_of text_variable symbols) written }, s.1))) stop
     ∙ sym (ap (λ (c : Clause). Ok (c, after)) is ∙ (λ j. Ok (record { literals = literals-clipped symbols written j }, after)))
+
+sides_seen : (symbols : List Symbol) (r : Read (List Side))
+    → seen_by (flat_map (terms_of clipped_variable symbols)) r ≡ seen_by (map clipped_term) (r >>= λ ss. Ok (flat_map (terms_of text_variable symbols) ss.0, ss.1))
+sides_seen symbols (Ok r) = ap (λ (ts : List Term). Ok (ts, r.1)) (sides-clipped symbols r.0)
+sides_seen symbols (Err e) = refl
+
+-- where there is a term
+pub some_terms_made : (symbols : List Symbol) (tokens : List Token) → next_is (is_sign Close) tokens ≡ false
+    → seen_by (flat_map (terms_of clipped_variable symbols)) (separated Comma side (length tokens) tokens) ≡ seen_by (map clipped_term) (text_terms symbols tokens)
+some_terms_made symbols tokens e =
+    let sides = separated Comma side (length tokens) tokens in
+    sides_seen symbols sides
+    ∙ ap (seen_by (map clipped_term)) (sym (second_of_two (next_is (is_sign Close) tokens) (Ok ([], tokens)) (sides >>= λ ss. Ok (flat_map (terms_of text_variable symbols) ss.0, ss.1)) e))

@@ -1,4 +1,4 @@
-use Rattle.std.proofs.Common.{◌≡◌, ◌∙◌, ap, refl, ℕ, List, [], suc, ◌+◌, ◌-◌, length, arith, rules}
+use Rattle.std.proofs.Common.{◌≡◌, ◌∙◌, sym, ap, refl, ℕ, List, [], suc, ◌+◌, ◌-◌, length, arith, rules}
 use Rattle.std.specs.List.{flat_map}
 use Rattle.std.proofs.lemmas.List.Concat.{flat_map-cons}
 use Rattle.sc_data.specs.declared.Term.{Term}
@@ -35,3 +35,12 @@ returns-in_err-terms c =
     let one = terms_of clipped_variable c.args.sig.now in
     gathers_fails Comma side one (flat_map one) refl (flat_map-cons one) _ _ c.in_err-terms.field-0.0 most c.loop.counter c.loop.front c.loop.rest.now _
     more (search rules) c.in_err-terms.ensures c.loop.invariant
+
+pub returns-then-not-next_is_sign : goal.returns-then-not-next_is_sign
+returns-then-not-next_is_sign c =
+    let most = length c.args.tokens.now in
+    let more : most - c.loop.counter ≡ suc (most - (c.loop.counter + 1)) = omega (arith, c.loop-test.true) in
+    let one = terms_of clipped_variable c.args.sig.now in
+    sym c.loop.invariant
+    ∙ gathers_last Comma side one (flat_map one) refl (flat_map-cons one) most c.loop.counter c.loop.front c.append.new.self c.in_ok-terms.terms c.loop.rest.now c.in_ok-terms.after.now
+    more c.in_ok-append.ensures c.in_ok-terms.ensures (search rules)
