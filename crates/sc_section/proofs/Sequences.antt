@@ -111,5 +111,5 @@ module _ {A B : Type 0} (between : Sign) (one : List Token → Read A) (f : A �
       let step : behind front (seen_by g (one tokens >>= after_one m)) ≡ whole =
       ap (λ (k : ℕ). behind front (seen_by g (separated between one k tokens))) (sym still) ∙ all in
       let fails = fails_on e (one tokens >>= after_one m >>= λ r. Ok (g r.0, r.1)) (λ r. Ok (front ++ r.0, r.1))
-          (fails_on e (one tokens >>= after_one m) (λ r. Ok (g r.0, r.1)) (fails_on e (one tokens) (after_one m) (fails_unseen f (one tokens) e h))) in
+      (fails_on e (one tokens >>= after_one m) (λ r. Ok (g r.0, r.1)) (fails_on e (one tokens) (after_one m) (fails_unseen f (one tokens) e h))) in
       gives_err view result e whole is (subst (Fails e) step fails)

@@ -61,7 +61,10 @@ fn show_step(alloc: Global, text: &mut String, step: &Step) -> Mem<()> {
                 Side::Left => "left",
                 Side::Right => "right",
             };
-            format!(in alloc; "para {from} {from_lit} {side} {into} {into_lit} {}", path.len())?
+            format!(in alloc;
+                "para {from} {from_lit} {side} {into} {into_lit} {}",
+                path.len()
+            )?
         }
         Step::Flip { of, lit } => format!(in alloc; "flip {of} {lit}")?,
     };
