@@ -1,6 +1,6 @@
 -- What a proof section leaves is an end of what it was given.
 use Rattle.std.proofs.Common.{ℕ, zero, suc, ◌+◌, Bool, true, false, ◌&&◌, List, [], ◌∷◌, map, length, Ok}
-use Rattle.std.specs.Prelude.{codes, flat_map}
+use Rattle.std.specs.Prelude.{codes, flat_map, ◌==◌}
 use Rattle.std.specs.List.{list_all}
 use Rattle.std.specs.Str.Parse.{digits_value}
 use Rattle.sc_data.specs.declared.Step.{Step}
@@ -99,7 +99,7 @@ a_step-end symbols ts = then ts ts a_word _ a_word-end (all_left ts) (λ name e.
 
 a_line-end : (symbols : List Symbol) (number : ℕ) → LeavesEnd (a_line symbols number)
 a_line-end symbols number ts =
-    then ts ts (the_number number) _ (number_such-end _) (all_left ts) (λ n e.
+    then ts ts (the_number number) _ (number_such-end (λ k. k == number)) (all_left ts) (λ n e.
     then ts n.1 (a_step symbols) _ (a_step-end symbols) e (λ step e'.
     then ts step.1 (the_sign Colon) _ (the_sign-end Colon) e' (λ colon e''.
     then ts colon.1 (text_clause symbols) _ (text_clause-end symbols) e'' (λ c e'''. e'''))))

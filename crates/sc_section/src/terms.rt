@@ -62,6 +62,7 @@ fn clipped_value(digits: &[u8]) -> Option<u32>
     }
 }
 
+/// Want of memory, as a reader says it.
 pub fn memory(_: OutOfMemory) -> Stop
     ensures { result ≡ Memory }
 {
