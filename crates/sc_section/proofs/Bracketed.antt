@@ -1,5 +1,5 @@
 -- Something in parentheses that is known only as it is seen.
-use Rattle.std.proofs.Common.{◌≡◌, List, Ok, Err}
+use Rattle.std.proofs.Common.{◌≡◌, List, Ok}
 use Rattle.sc_reading.specs.declared.token.Token.{Token}
 use Rattle.sc_reading.specs.declared.token.Sign.TheVariants.{Open, Close}
 use Rattle.sc_reading.specs.Reader.{Read, ◌>>=◌, the_sign}

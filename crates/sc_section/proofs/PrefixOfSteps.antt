@@ -12,7 +12,7 @@ use Rattle.sc_data.specs.declared.Clause.{Clause}
 use Rattle.sc_term.specs.declared.symbol.Symbol.{Symbol}
 use Rattle.sc_reading.specs.declared.token.Token.{Token}
 use Rattle.sc_reading.specs.declared.token.Token.TheVariants.{Word, Punctuation, Refused}
-use Rattle.sc_reading.specs.declared.token.Sign.TheVariants.{Close, Comma, Stop, Colon}
+use Rattle.sc_reading.specs.declared.token.Sign.TheVariants.{Close, Comma, Stop}
 use Rattle.sc_reading.specs.Token.{is_sign, is_word, same_text}
 use Rattle.sc_reading.specs.Tokens.{is_digit}
 use Rattle.sc_reading.specs.Reader.{Read, unexpected, the_sign, the_word, a_word, separated}

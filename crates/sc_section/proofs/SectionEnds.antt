@@ -1,10 +1,10 @@
 -- What a proof section leaves is an end of what it was given.
-use Rattle.std.proofs.Common.{ℕ, zero, suc, ◌+◌, Bool, true, false, ◌&&◌, List, [], ◌∷◌, map, length, Ok}
+use Rattle.std.proofs.Common.{ℕ, zero, suc, ◌+◌, Bool, true, false, ◌&&◌, List, [], ◌∷◌, length, Ok}
 use Rattle.std.specs.Prelude.{codes, flat_map, ◌==◌}
 use Rattle.std.specs.List.{list_all}
 use Rattle.std.specs.Str.Parse.{digits_value}
 use Rattle.sc_data.specs.declared.Step.{Step}
-use Rattle.sc_data.specs.declared.Step.TheVariants.{Input, Instance, Resolve, Merge, Para, Flip}
+use Rattle.sc_data.specs.declared.Step.TheVariants.{Merge, Flip}
 use Rattle.sc_data.specs.declared.Side.TheVariants.{Left, Right}
 use Rattle.sc_data.specs.declared.Line.{Line}
 use Rattle.sc_term.specs.declared.symbol.Symbol.{Symbol}

@@ -30,7 +30,7 @@ fn symbols(alloc: Global) -> Mem<Signature> {
 #[derive(Clone, Copy, Debug, PartialEq, Eq)]
 struct Sketch(char, u32, usize, usize);
 
-fn sketch(line: &Line) -> Sketch {
+fn sketch_of(line: &Line) -> Sketch {
     let literals = line.clause.literals.len();
     match &line.step {
         Step::Input(k) => Sketch('i', *k, 0, literals),
@@ -58,7 +58,7 @@ fn are_wanted(wanted: &[Sketch], lines: &[Line]) -> bool {
         && wanted
             .iter()
             .zip(lines)
-            .all(|(want, line)| *want == sketch(line))
+            .all(|(want, line)| *want == sketch_of(line))
 }
 
 fn section_is(alloc: Global, bytes: &str, want: Want) -> Mem<bool> {

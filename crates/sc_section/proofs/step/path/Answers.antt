@@ -1,12 +1,11 @@
-use Rattle.std.proofs.Common.{◌≡◌, ◌∙◌, ap, refl, ℕ, List, [], ◌∷◌, suc, ◌+◌, ◌-◌, map, Ok, arith, rules}
+use Rattle.std.proofs.Common.{◌≡◌, ◌∙◌, ap, refl, ℕ, List, [], ◌∷◌, suc, ◌+◌, ◌-◌, map, arith, rules}
 use Rattle.sc_reading.specs.Reader as spec
-use Rattle.sc_reading.specs.declared.token.Token.{Token}
 use Rattle.sc_reading.specs.declared.token.Sign.TheVariants.{Comma}
 use Rattle.sc_grammar.specs.Behind.{behind}
 use Rattle.sc_grammar.proofs.Lists.{behind_none}
 use Rattle.sc_written.specs.TextWords.{a_number}
 use Rattle.sc_section.specs.Clipped.{clipped, seen_by}
-use Rattle.sc_section.proofs.Sequences.{seen_as, fails_as, gathers_on, gathers_last, gathers_fails}
+use Rattle.sc_section.proofs.Sequences.{seen_as, fails_as, gathers_on, gathers_fails}
 use Rattle.sc_section.proofs.step.path.Goals as goal
 
 abbrev single : ℕ → List ℕ
