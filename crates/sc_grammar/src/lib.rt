@@ -1,4 +1,4 @@
-//! Readers of the productions of a problem, from tokens: clauses and items. Each answers exactly what the
+//! Readers of the productions of a problem, from tokens: sides, clauses and items. Each answers exactly what the
 //! definition of its name in `sc_reading` gives: a value and the tokens behind it, or with how many tokens left it
 //! fails, and why (`Stop`). Want of memory alone is free.
 //!
