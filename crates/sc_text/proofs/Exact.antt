@@ -1,6 +1,6 @@
 -- Lines whose numbers and variables are small are answered as they are.
-use Rattle.std.proofs.Common.{◌≡◌, ◌∙◌, sym, ap, refl, ◌≤◌, min, Bool, true, false, List, [], ◌∷◌, ◌++◌, map, take, drop, Option, Some, None, arith}
-use Rattle.std.specs.Prelude.{ℕ, suc, ◌&&◌, ◌||◌, nat_lt, length, flat_map, if◌then◌else◌}
+use Rattle.std.proofs.Common.{◌≡◌, ◌∙◌, sym, ap, refl, ◌≤◌, min, Bool, true, false, List, [], ◌∷◌, ◌++◌, map, take, drop, Some, None, arith}
+use Rattle.std.specs.Prelude.{ℕ, suc, ◌&&◌, nat_lt, length, flat_map, if◌then◌else◌}
 use Rattle.std.specs.List.{AllByRecursion}
 use Rattle.std.specs.Str.Parse.{digits_value}
 use Rattle.std.proofs.lemmas.Bool.{leb-false}
@@ -13,7 +13,6 @@ use Rattle.sc_data.proofs.SubstitutionLaws.{all_split}
 use Rattle.sc_data.proofs.TermLaws.{fold-Var, fold-App}
 use Rattle.sc_term.specs.declared.symbol.Symbol.{Symbol}
 use Rattle.sc_reading.specs.declared.written.Occurrence.{Occurrence}
-use Rattle.sc_reading.specs.declared.written.WrittenLiteral.{WrittenLiteral}
 use Rattle.sc_reading.specs.Syntax.{Side, WrittenClause}
 use Rattle.sc_reading.specs.Numbering.{function_at, symbol_number, terms_of, literal_of}
 use Rattle.sc_reading.proofs.Booleans.{neither}

@@ -1,22 +1,21 @@
 -- Where no limit is passed behind the words of a clause or of a term list, their variables are small.
 use Rattle.std.proofs.Common.{◌≡◌, ◌∙◌, sym, ap, subst, refl, Bool, true, false, List, [], ◌∷◌, ◌++◌, append_assoc, reverse, Option, Some, None}
-use Rattle.std.specs.Prelude.{ℕ, ◌+◌, ◌==◌, ◌&&◌, ◌||◌, if◌then◌else◌, codes, option_and_then}
+use Rattle.std.specs.Prelude.{ℕ, ◌==◌, ◌&&◌, if◌then◌else◌, codes, option_and_then}
 use Rattle.std.specs.List.{AllByRecursion}
 use Rattle.std.specs.Cmp.Lexicographic.{bytes_decides}
 use Rattle.std.proofs.lemmas.List.{reverse-append}
 use Rattle.sc_data.proofs.SubstitutionLaws.{all_join, all_split}
 use Rattle.sc_term.specs.declared.symbol.Symbol.{Symbol}
 use Rattle.sc_reading.specs.declared.token.Token.{Token}
-use Rattle.sc_reading.specs.declared.token.Token.TheVariants.{Word, Punctuation, Refused}
-use Rattle.sc_reading.specs.declared.token.Sign.TheVariants.{Open, Close, Comma, Stop, Colon}
-use Rattle.sc_reading.specs.Token.{is_sign, is_word, same_text}
+use Rattle.sc_reading.specs.declared.token.Token.TheVariants.{Word, Punctuation}
+use Rattle.sc_reading.specs.declared.token.Sign.TheVariants.{Open, Comma, Stop, Colon}
+use Rattle.sc_reading.specs.Token.{is_sign, same_text}
 use Rattle.sc_reading.specs.ClauseLimits.{when}
 use Rattle.sc_reading.specs.declared.written.Occurrence.{Occurrence}
-use Rattle.sc_reading.proofs.Spelling.{Sides, AreNames, tokens_of, occurrences}
 use Rattle.sc_reading.proofs.ClauseWithin.{not_when}
 use Rattle.sc_reading.proofs.Standing.{HasNoStop}
 use Rattle.sc_written.specs.TextWords.{is_large_variable}
-use Rattle.sc_written.specs.TextPosition.{TextPosition, behind_first, around, last_term, is_table_row, is_instance, Formula, formula, ended_name, name_before, in_term_place}
+use Rattle.sc_written.specs.TextPosition.{behind_first, around, last_term, is_table_row, is_instance, Formula, formula, ended_name, name_before, in_term_place}
 use Rattle.sc_written.specs.TextLimits.{variable_told}
 use Rattle.sc_text.proofs.TextStanding.{InSentence, further, clear_at}
 use Rattle.sc_text.proofs.SmallWords.{SmallVariable, bare, next_or, SmallWords}
@@ -98,9 +97,9 @@ pub no_formula : (front : List Token) → is_table_row front ≡ false → HasNo
 no_formula front row colons other =
     ap (of_row front) row ∙ ap (of_colon front) (no_colon front colons)
     ∙ ap (λ (b : Bool). elim b [
-          | true ↦ elim (behind_first (is_sign Open) front) [ Some tokens ↦ Some (record { is_term = true; tokens = last_term 0 [] tokens }) | None ↦ None ]
-          | false ↦ None
-        ]) other
+      | true ↦ elim (behind_first (is_sign Open) front) [ Some tokens ↦ Some (record { is_term = true; tokens = last_term 0 [] tokens }) | None ↦ None ]
+      | false ↦ None
+    ]) other
 
 -- ---- the words of a clause
 

@@ -7,3 +7,4 @@ pub mod Exact
 pub mod TermsRead
 pub mod Steps
 pub mod LinesRead
+pub mod Laws

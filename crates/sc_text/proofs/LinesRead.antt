@@ -1,5 +1,5 @@
 -- Where no limit is passed, the lines of a proof section that is read are answered as they are.
-use Rattle.std.proofs.Common.{◌≡◌, ◌∙◌, sym, ap, subst, refl, Bool, true, false, List, [], ◌∷◌, ◌++◌, map, length, Option, None, Ok}
+use Rattle.std.proofs.Common.{◌≡◌, ◌∙◌, sym, ap, subst, refl, Bool, true, false, List, [], ◌∷◌, ◌++◌, map, length, None, Ok}
 use Rattle.std.specs.Prelude.{ℕ, zero, suc, ◌+◌, ◌==◌, codes}
 use Rattle.std.specs.List.{AllByRecursion}
 use Rattle.std.specs.Cmp.Lexicographic.{bytes_decides}
@@ -11,13 +11,13 @@ use Rattle.sc_term.specs.declared.symbol.Symbol.{Symbol}
 use Rattle.sc_reading.specs.declared.token.Token.{Token}
 use Rattle.sc_reading.specs.declared.token.Token.TheVariants.{Word, Punctuation}
 use Rattle.sc_reading.specs.declared.token.Sign.TheVariants.{Stop, Colon}
-use Rattle.sc_reading.specs.Token.{is_sign, same_text}
-use Rattle.sc_reading.specs.Reader.{Read, Name, ◌>>=◌, unexpected, the_sign, the_word, a_word}
+use Rattle.sc_reading.specs.Token.{same_text}
+use Rattle.sc_reading.specs.Reader.{◌>>=◌, unexpected, the_sign, the_word, a_word}
 use Rattle.sc_reading.specs.ClauseGrammar.{clause}
 use Rattle.sc_reading.specs.Faults.{first_passed}
 use Rattle.sc_reading.specs.Numbering.{literal_of}
 use Rattle.sc_reading.specs.ProblemGrammar.{next_is_word}
-use Rattle.sc_reading.proofs.ClauseSpelling.{clause_tokens, clause_written}
+use Rattle.sc_reading.proofs.ClauseSpelling.{clause_tokens}
 use Rattle.sc_reading.proofs.ClausesRead.{clause_read}
 use Rattle.sc_reading.proofs.NoStop.{clause_no_stop}
 use Rattle.sc_reading.proofs.Taken.{Gives, both, same, sign_taken, word_taken}
@@ -25,12 +25,12 @@ use Rattle.sc_written.specs.TextWords.{the_number, text_variable}
 use Rattle.sc_written.specs.TextLimits.{text_bounds, text_fault_at}
 use Rattle.sc_written.specs.TextPosition.{is_table_row}
 use Rattle.sc_written.specs.ProofGrammar.{text_clause, input_step, instance_step, resolve_step, of_line_and_literal, para_step, step_named, a_step, a_line, lines_within, the_heading, proof_section, alone}
-use Rattle.sc_section.specs.Clipped.{clipped_clause, clipped_step, clipped_line}
+use Rattle.sc_section.specs.Clipped.{clipped_clause, clipped_line}
 use Rattle.sc_text.proofs.TextStanding.{AtStart, InSentence, at_first, sentence_begun, sentence_ended, further}
 use Rattle.sc_text.proofs.SmallClauses.{HasSmallTerms, clause_small}
 use Rattle.sc_text.proofs.InFormulas.{HasNoColon, clause_terms}
 use Rattle.sc_text.proofs.Numbers.{InStep, Somewhere, digits_read, no_row}
-use Rattle.sc_text.proofs.Steps.{WordRead, the_word_read, StepRead, input_read, instance_read, resolve_read, two_read, para_read}
+use Rattle.sc_text.proofs.Steps.{the_word_read, StepRead, input_read, instance_read, resolve_read, two_read, para_read}
 use Rattle.sc_text.proofs.Exact.{literals_exact}
 
 -- ---- the step that a word names
@@ -60,18 +60,18 @@ module _ (symbols : List Symbol) (whole : List Token) (n : ℕ) (number : List �
       by : (a b c d f g : Bool) → same_text name (codes "input") ≡ a → same_text name (codes "instance") ≡ b → same_text name (codes "resolve") ≡ c → same_text name (codes "merge") ≡ d → same_text name (codes "para") ≡ f
           → same_text name (codes "flip") ≡ g
           → Gives (elim a [
-                | true ↦ input_step ts
-                | false ↦ elim b [
-                  | true ↦ instance_step symbols ts
-                  | false ↦ elim c [
-                    | true ↦ resolve_step ts
-                    | false ↦ elim d [
-                      | true ↦ of_line_and_literal (λ j a. Merge j a) ts
-                      | false ↦ elim f [ true ↦ para_step ts | false ↦ elim g [ true ↦ of_line_and_literal (λ j a. Flip j a) ts | false ↦ unexpected us ] ]
-                    ]
-                  ]
+            | true ↦ input_step ts
+            | false ↦ elim b [
+              | true ↦ instance_step symbols ts
+              | false ↦ elim c [
+                | true ↦ resolve_step ts
+                | false ↦ elim d [
+                  | true ↦ of_line_and_literal (λ j a. Merge j a) ts
+                  | false ↦ elim f [ true ↦ para_step ts | false ↦ elim g [ true ↦ of_line_and_literal (λ j a. Flip j a) ts | false ↦ unexpected us ] ]
                 ]
-              ]) step left → Done name step left
+              ]
+            ]
+          ]) step left → Done name step left
       by true b c d f g a' b' c' d' f' g' e = input_read symbols whole n number m name row (not_instance name (codes "input") a' refl) ts step left (begun_within name ts s) e
       by false true c d f g a' b' c' d' f' g' e =
           let known = is_name name (codes "instance") b' in

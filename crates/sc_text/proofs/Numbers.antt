@@ -1,24 +1,23 @@
 -- Where no limit is passed, the numbers of a step are small.
-use Rattle.std.proofs.Common.{◌≡◌, ◌∙◌, sym, ap, subst, refl, ◌≤◌, Bool, true, false, List, [], ◌∷◌, ◌++◌, append_assoc, length, Option, Some, None, Ok, arith}
-use Rattle.std.specs.Prelude.{ℕ, suc, zero, ◌+◌, ◌==◌, ◌&&◌, ◌||◌, nat_lt, if◌then◌else◌, codes}
-use Rattle.std.specs.List.{AllByRecursion, list_all}
+use Rattle.std.proofs.Common.{◌≡◌, ◌∙◌, sym, ap, subst, refl, ◌≤◌, Bool, true, false, List, [], ◌∷◌, ◌++◌, length, Option, Some, None, Ok, arith}
+use Rattle.std.specs.Prelude.{ℕ, suc, ◌==◌, ◌&&◌, ◌||◌, nat_lt, if◌then◌else◌, codes}
+use Rattle.std.specs.List.{list_all}
 use Rattle.std.specs.Str.Parse.{digits_value}
 use Rattle.std.specs.Cmp.Lexicographic.{bytes_decides}
 use Rattle.std.proofs.lemmas.Bool.{leb-false}
 use Rattle.sc_data.proofs.SubstitutionLaws.{all_join}
 use Rattle.sc_term.specs.declared.symbol.Symbol.{Symbol}
 use Rattle.sc_reading.specs.declared.token.Token.{Token}
-use Rattle.sc_reading.specs.declared.token.Token.TheVariants.{Word, Punctuation, Refused}
-use Rattle.sc_reading.specs.declared.token.Sign.TheVariants.{Open, Close, Comma, Stop, Colon}
-use Rattle.sc_reading.specs.Token.{is_sign, is_word, same_text}
+use Rattle.sc_reading.specs.declared.token.Token.TheVariants.{Word}
+use Rattle.sc_reading.specs.declared.token.Sign.TheVariants.{Stop, Colon}
+use Rattle.sc_reading.specs.Token.{is_sign, same_text}
 use Rattle.sc_reading.specs.Tokens.{is_digit}
-use Rattle.sc_reading.specs.Reader.{Read, Name, ◌>>=◌, unexpected, next_is, the_sign, the_word, a_word, separated}
-use Rattle.sc_reading.specs.ClauseLimits.{when}
+use Rattle.sc_reading.specs.Reader.{Name, unexpected, a_word}
 use Rattle.sc_reading.proofs.Booleans.{parts_hold, neither}
-use Rattle.sc_reading.proofs.Taken.{Gives, both, same, sign_taken, word_taken}
+use Rattle.sc_reading.proofs.Taken.{Gives, both, same, word_taken}
 use Rattle.sc_reading.proofs.ClauseWithin.{not_when}
-use Rattle.sc_written.specs.TextWords.{is_longer_or_above, a_number_such, a_number, the_number}
-use Rattle.sc_written.specs.TextPosition.{is_table_row, is_instance, Formula, formula}
+use Rattle.sc_written.specs.TextWords.{is_longer_or_above, a_number_such, a_number}
+use Rattle.sc_written.specs.TextPosition.{is_table_row, Formula, formula}
 use Rattle.sc_written.specs.TextLimits.{large_number, is_table_name, number_told}
 use Rattle.sc_reading.proofs.Standing.{HasNoStop}
 use Rattle.sc_text.proofs.TextStanding.{InSentence, further, clear_at}

@@ -15,12 +15,12 @@ use Rattle.sc_reading.specs.declared.written.WrittenLiteral.{WrittenLiteral}
 use Rattle.sc_reading.specs.ClauseGrammar.{is_equality}
 use Rattle.sc_reading.specs.Measures.{open_commas, last_literal, without_bracket, without_minus}
 use Rattle.sc_reading.proofs.OneMore.{open_commas-one_more}
-use Rattle.sc_reading.proofs.Spelling.{Head, Sides, Empty, Entry, in_brackets, tokens_of, side_tokens, occurrence, occurrences, side_of, IsName, AreNames}
-use Rattle.sc_reading.proofs.ClauseSpelling.{Equated, Atom, Plain, Equation, Wrapping, Bare, Negative, Brackets, NegativeBrackets, LiteralTree, ClauseTree, Falsum, Literals, equal_sign, atom_tokens, opening_tokens, closing_tokens, literal_tokens, behind_bar, clause_tokens, atom_written, literal_written, clause_written, HasNames, IsSpelt, IsSpeltClause}
+use Rattle.sc_reading.proofs.Spelling.{Head, Sides, Empty, Entry, in_brackets, tokens_of, side_tokens, occurrences, side_of, IsName, AreNames}
+use Rattle.sc_reading.proofs.ClauseSpelling.{Atom, Plain, Equation, Wrapping, Bare, Negative, Brackets, NegativeBrackets, LiteralTree, ClauseTree, Falsum, Literals, equal_sign, atom_tokens, opening_tokens, closing_tokens, literal_tokens, behind_bar, clause_tokens, atom_written, literal_written, clause_written, HasNames, IsSpelt, IsSpeltClause}
 use Rattle.sc_reading.proofs.NoStop.{literal_no_bar}
 use Rattle.sc_reading.proofs.ClauseParts.{wrapped-arguments}
-use Rattle.sc_written.specs.TextPosition.{Formula, is_nonempty, in_term_place}
-use Rattle.sc_text.proofs.SmallWords.{SmallVariable, bare, next_or, next_or-append, SmallWords, small_front, small_back, head_small, sides_small, brackets_small}
+use Rattle.sc_written.specs.TextPosition.{is_nonempty, in_term_place}
+use Rattle.sc_text.proofs.SmallWords.{SmallVariable, bare, next_or, next_or-append, SmallWords, small_back, head_small, sides_small, brackets_small}
 
 -- ---- the last literal
 

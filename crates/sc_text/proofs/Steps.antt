@@ -2,10 +2,9 @@
 use Rattle.std.proofs.Common.{◌≡◌, ◌∙◌, sym, ap, subst, refl, ◌≤◌, Bool, true, false, List, [], ◌∷◌, ◌++◌, map, length, Ok}
 use Rattle.std.specs.Prelude.{ℕ, zero, suc, codes, flat_map}
 use Rattle.std.specs.List.{AllByRecursion}
-use Rattle.std.specs.Cmp.Lexicographic.{bytes_decides}
 use Rattle.sc_data.specs.declared.Term.{Term}
 use Rattle.sc_data.specs.declared.Step.{Step}
-use Rattle.sc_data.specs.declared.Step.TheVariants.{Input, Instance, Resolve, Merge, Para, Flip}
+use Rattle.sc_data.specs.declared.Step.TheVariants.{Input, Instance, Resolve, Para}
 use Rattle.sc_data.specs.declared.Side.{Side}
 use Rattle.sc_data.specs.declared.Side.TheVariants.{Left, Right}
 use Rattle.sc_term.specs.declared.symbol.Symbol.{Symbol}
@@ -14,18 +13,18 @@ use Rattle.sc_reading.specs.declared.token.Token.TheVariants.{Word, Punctuation}
 use Rattle.sc_reading.specs.declared.token.Sign.TheVariants.{Open, Close, Comma, Stop, Colon}
 use Rattle.sc_reading.specs.Token.{is_sign, same_text}
 use Rattle.sc_reading.specs.Reader.{Name, ◌>>=◌, unexpected, next_is, the_sign, the_word, a_word, separated}
-use Rattle.sc_reading.specs.ClauseGrammar.{side}
+use Rattle.sc_reading.specs.ClauseGrammar.{bracketed, side}
 use Rattle.sc_reading.specs.Numbering.{terms_of}
 use Rattle.sc_reading.specs.ProblemGrammar.{next_is_word}
 use Rattle.sc_reading.specs.Syntax as syntax
-use Rattle.sc_reading.proofs.Spelling.{Sides, Entry, tokens_of}
-use Rattle.sc_reading.proofs.Taken.{Gives, both, Same, same, sign_taken, word_taken}
+use Rattle.sc_reading.proofs.Spelling.{Entry, tokens_of}
+use Rattle.sc_reading.proofs.Taken.{Gives, both, same, sign_taken, word_taken}
 use Rattle.sc_reading.proofs.SidesRead.{SidesRead, brackets_read}
 use Rattle.sc_reading.proofs.NoStop.{OfLiterals, sides_all}
 use Rattle.sc_reading.proofs.ClauseSpelling.{equal_sign}
 use Rattle.sc_written.specs.TextWords.{a_number, text_variable}
 use Rattle.sc_written.specs.TextPosition.{is_table_row}
-use Rattle.sc_written.specs.ProofGrammar.{text_terms, a_side, input_step, instance_step, resolve_step, of_line_and_literal, para_step, step_named, a_step}
+use Rattle.sc_written.specs.ProofGrammar.{text_terms, a_side, input_step, instance_step, resolve_step, of_line_and_literal, para_step}
 use Rattle.sc_section.specs.Clipped.{clipped, clipped_term, clipped_step}
 use Rattle.sc_text.proofs.TermsRead.{sides_read}
 use Rattle.sc_text.proofs.SmallWords.{SmallVariable, sides_small}
@@ -130,6 +129,18 @@ module _ (symbols : List Symbol) (whole : List Token) (n : ℕ) (number : List �
             let z = same (a ∷ []) ns us left e in
             (subst (λ ns. AllByRecursion (λ n. n ≤ 4294967295) ns) z.value (small, tt), subst (λ ts. Within ts) z.left s)
 
+    opened_within : (ts us : List Token) (at : ℕ) → ts ≡ Punctuation at Open ∷ us → Within ts → Within us
+    opened_within ts us at e s = one_token symbols whole n number m name ts us (Punctuation at Open) e refl refl s
+
+    closed_within : (ts us : List Token) (at : ℕ) → ts ≡ Punctuation at Close ∷ us → Within ts → Within us
+    closed_within ts us at e s = one_token symbols whole n number m name ts us (Punctuation at Close) e refl refl s
+
+    path_read : (k : ℕ) (ts : List Token) (ns : List ℕ) (left : List Token) → Within ts → Gives (bracketed (separated Comma a_number k) ts) ns left → AllByRecursion (λ n. n ≤ 4294967295) ns × Within left
+    path_read k ts ns left s e =
+        let p = brackets_read (separated Comma a_number k) ts ns left e in
+        let places = numbers_read k p.inner ns p.outer (opened_within ts p.inner p.opening p.opened s) p.within in
+        (places.0, closed_within p.outer left p.closing p.closed places.1)
+
     pub para_read : (ts : List Token) (step : Step) (left : List Token) → Within ts → Gives (para_step ts) step left → StepRead step left
     para_read ts step left s e =
         let j = both (a_number ts) _ step left e in
@@ -143,13 +154,10 @@ module _ (symbols : List Symbol) (whole : List Token) (n : ℕ) (number : List �
         let q = a_number_within side.left k.value k.left behind k.first in
         let b = both (a_number k.left) _ step left k.second in
         let q' = a_number_within k.left b.value b.left q.1 b.first in
-        let path = both _ _ step left b.second in
-        let p = brackets_read (separated Comma a_number (length b.left)) b.left path.value path.left path.first in
-        let opened = one_token symbols whole n number m name b.left p.inner (Punctuation p.opening Open) p.opened refl refl q'.1 in
-        let places = numbers_read (length b.left) p.inner path.value p.outer opened p.within in
-        let closed = one_token symbols whole n number m name p.outer path.left (Punctuation p.closing Close) p.closed refl refl places.1 in
+        let path = both (bracketed (separated Comma a_number (length b.left)) b.left) _ step left b.second in
+        let p = path_read (length b.left) b.left path.value path.left q'.1 path.first in
         step_ended (Para j.value a.value side.value k.value b.value path.value) step path.left left path.second
-        (λ i. Para (min_exact j.value r.0 i) (min_exact a.value r'.0 i) side.value (min_exact k.value q.0 i) (min_exact b.value q'.0 i) (numbers_exact path.value places.0 i)) closed
+        (λ i. Para (min_exact j.value r.0 i) (min_exact a.value r'.0 i) side.value (min_exact k.value q.0 i) (min_exact b.value q'.0 i) (numbers_exact path.value p.0 i)) p.1
 
 -- ---- instances
 
@@ -214,7 +222,7 @@ module _ (symbols : List Symbol) (whole : List Token) (n : ℕ) (number : List �
       let t = both _ _ step left j.second in
       let b = brackets_read (text_terms symbols) j.left t.value t.left t.first in
       let opened = step_further symbols whole n number m (codes "instance") (Word r.at r.text ∷ []) (Punctuation b.opening Open ∷ []) b.inner (refl, tt) (refl, tt)
-          (subst (InInstance (Word r.at r.text ∷ [])) b.opened r.here) in
+      (subst (InInstance (Word r.at r.text ∷ [])) b.opened r.here) in
       let terms = terms_read r.at r.text b.opening b.closing b.inner t.value b.outer t.left opened b.within b.closed in
       let closed = one_token symbols whole n number m (codes "instance") b.outer t.left (Punctuation b.closing Close) b.closed refl refl (record { rest = terms.rest; here = terms.here }) in
       step_ended symbols whole n number m (codes "instance") row (Instance j.value t.value) step t.left left t.second (λ i. Instance (min_exact j.value r.small i) (terms.exact i)) closed

@@ -1,5 +1,5 @@
 -- Where the terms of an instance are read, they are the occurrences of a tree, and the tokens are those that spell it.
-use Rattle.std.proofs.Common.{◌≡◌, ◌∙◌, sym, ap, subst, refl, ℕ, zero, suc, Bool, true, false, List, [], ◌∷◌, ◌++◌, append_assoc, Ok, arith}
+use Rattle.std.proofs.Common.{◌∙◌, sym, ap, subst, refl, ℕ, zero, suc, Bool, true, false, List, [], ◌∷◌, ◌++◌, append_assoc, Ok, arith}
 use Rattle.std.proofs.lemmas.List.{append-nil}
 use Rattle.sc_reading.specs.declared.token.Token.{Token}
 use Rattle.sc_reading.specs.declared.token.Token.TheVariants.{Word, Punctuation}

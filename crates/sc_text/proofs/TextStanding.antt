@@ -1,7 +1,6 @@
 -- Where the tokens of a line stand, behind whole sentences, and what holds there where no limit is passed.
-use Rattle.std.proofs.Common.{◌≡◌, ◌∙◌, sym, ap, subst, refl, Bool, true, false, List, [], ◌∷◌, ◌++◌, append_assoc, Option, Some, None}
+use Rattle.std.proofs.Common.{◌≡◌, ◌∙◌, sym, ap, refl, Bool, true, false, List, [], ◌∷◌, ◌++◌, append_assoc, Option, Some, None}
 use Rattle.std.specs.Prelude.{ℕ, if◌then◌else◌, cond, drop}
-use Rattle.std.specs.List.{AllByRecursion}
 use Rattle.std.proofs.lemmas.List.{append-nil}
 use Rattle.sc_data.proofs.SubstitutionLaws.{all_join}
 use Rattle.sc_term.specs.declared.symbol.Symbol.{Symbol}
