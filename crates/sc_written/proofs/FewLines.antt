@@ -50,11 +50,11 @@ blanked-length c (b ∷ bs) = ap suc (blanked-length (not (b == 10) && (c || b =
 
 pub few_tokens : (from : ℕ) (bytes : List ℕ) → length (tokens_behind from bytes) ≤ length bytes
 few_tokens from bytes = omega (
-    arith,
-    length-map (tokens_from from (blanked false (drop from bytes))) with_dollars_refused,
-    few_from from (blanked false (drop from bytes)),
-    blanked-length false (drop from bytes),
-    length-drop from bytes,
+  arith,
+  length-map (tokens_from from (blanked false (drop from bytes))) with_dollars_refused,
+  few_from from (blanked false (drop from bytes)),
+  blanked-length false (drop from bytes),
+  length-drop from bytes,
 )
 
 -- ---- lines
