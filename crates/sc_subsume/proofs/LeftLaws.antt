@@ -1,5 +1,5 @@
 -- What is left to try becomes less, when a literal is taken to a place and when the last choice is made otherwise.
-use Rattle.std.proofs.Common.{◌≡◌, ◌∙◌, sym, ap, refl, ℕ, zero, suc, ◌+◌, ◌-◌, ◌*◌, ◌<◌, ◌≤◌, List, [], ◌∷◌, ◌++◌, length, arith}
+use Rattle.std.proofs.Common.{◌≡◌, ap, ℕ, zero, suc, ◌+◌, ◌-◌, ◌*◌, ◌<◌, ◌≤◌, List, [], ◌∷◌, ◌++◌, length, arith}
 use Rattle.sc_subsume.specs.declared.search.Choice.{Choice}
 use Rattle.sc_subsume.specs.Search.{worth, left_to_try}
 

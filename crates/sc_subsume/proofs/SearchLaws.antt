@@ -1,7 +1,7 @@
 -- The choices that are still to be tried, through each step of the search.
-use Rattle.std.proofs.Common.{◌≡◌, ◌≢◌, ◌∙◌, sym, ap, subst, refl, ℕ, zero, suc, ◌+◌, ◌<◌, ◌≤◌, ◌↔◌, ◌⊎◌, inl, inr, Bool, true, false, if◌then◌else◌, nat_eq, List, [], ◌∷◌, ◌++◌, append_assoc, map, length, get_or, slice_get, take, drop, Option, None, Some, arith, add-one, drop-cons}
+use Rattle.std.proofs.Common.{◌≡◌, ◌∙◌, sym, ap, subst, refl, ℕ, zero, suc, ◌+◌, ◌<◌, ◌≤◌, ◌⊎◌, inl, inr, Bool, true, false, if◌then◌else◌, nat_eq, List, [], ◌∷◌, ◌++◌, length, get_or, slice_get, take, drop, Some, arith, drop-cons}
 use Rattle.std.proofs.lemmas.Bool.{eq-eqb}
-use Rattle.std.proofs.lemmas.List.{take-append-drop, length-map, drop_all}
+use Rattle.std.proofs.lemmas.List.{take-append-drop, drop_all}
 use Rattle.std.specs.List.{AllByRecursion}
 use Rattle.std.specs.Option.{unwrap_or}
 use Rattle.sc_data.specs.declared.Literal.{Literal}
@@ -11,11 +11,10 @@ use Rattle.sc_data.proofs.SubstitutionLaws.{all_split, all_join}
 use Rattle.sc_unify.specs.declared.bound.Binding.{Binding}
 use Rattle.sc_unify.specs.Bindings.{lookup}
 use Rattle.sc_unify.specs.Matching.{Gives, IsFunctional}
-use Rattle.sc_unify.proofs.TermFacts.{all_so, map_append}
-use Rattle.sc_unify.proofs.MatchingLaws.{length_more}
+use Rattle.sc_unify.proofs.TermFacts.{all_so}
 use Rattle.sc_subsume.specs.declared.bound.Bound.{Bound}
 use Rattle.sc_subsume.specs.declared.search.Choice.{Choice}
-use Rattle.sc_subsume.specs.Search.{bindings, Extends, Hits, HitsNone, HasNoPlace, IsFirstPlace, Reaches, IsOpen, IsWaiting, AreRising, IsSearch, GoesInto}
+use Rattle.sc_subsume.specs.Search.{bindings, Hits, HasNoPlace, IsFirstPlace, Reaches, IsOpen, IsWaiting, AreRising, IsSearch, GoesInto}
 use Rattle.sc_subsume.proofs.TakingLaws.{front}
 use Rattle.sc_subsume.proofs.TermsLaws.{begin, finish, goes_or_open}
 
@@ -90,6 +89,10 @@ rising_more low now later (other ∷ more) one h same le = (h.0, rising_more oth
 rising_less : (low now : ℕ) (choices : List Choice) (one : Choice) → AreRising low (choices ++ one ∷ []) now → AreRising low choices one.bound × (one.bound ≤ now)
 rising_less low now [] one h = (h.0, h.1)
 rising_less low now (other ∷ more) one h = let rest = rising_less other.bound now more one h.1 in ((h.0, rest.0), rest.1)
+
+pub fewer : (now : List Choice) (last : Choice) → length now ≤ length (now ++ last ∷ [])
+fewer [] last = omega arith
+fewer (x ∷ xs) last = omega (arith, fewer xs last)
 
 module _ (c d : List Literal) where
   -- ---- choices
@@ -196,7 +199,7 @@ module _ (c d : List Literal) where
         | inl here ↦ elim (forth (length choices) next l few at place old new h here) [
           | inl further ↦ inl (subst (λ k. IsOpen c d (bindings new) k 0) (sym more) further)
           | inr other ↦ inr (waits_last (bindings new) 0 (length choices) choices one (omega arith) (subst (λ bs. IsOpen c d bs (length choices) (one.place + 1)) (sym part)
-            (subst (λ k. IsOpen c d (bindings old) (length choices) (k + 1)) (sym same_place) other)))
+              (subst (λ k. IsOpen c d (bindings old) (length choices) (k + 1)) (sym same_place) other)))
         ]
         | inr before ↦ inr (waits_before (bindings new) 0 choices one (waiting_same (bindings old) (bindings new) (length old) 0 0 choices is.rising fronts before))
       ],
@@ -205,7 +208,7 @@ module _ (c d : List Literal) where
         | inr waits ↦ elim (waiting_last (bindings new) 0 (length choices) choices one (omega arith) waits) [
           | inl before ↦ inr (waiting_same (bindings new) (bindings old) (length old) 0 0 choices is.rising (sym fronts) before)
           | inr last ↦ inl (back (length choices) next l few at place old new h (inr (subst (λ k. IsOpen c d (bindings old) (length choices) (k + 1)) same_place
-            (subst (λ bs. IsOpen c d bs (length choices) (one.place + 1)) part last))))
+              (subst (λ bs. IsOpen c d bs (length choices) (one.place + 1)) part last))))
         ]
       ]),
     );
@@ -292,11 +295,11 @@ module _ (c d : List Literal) where
           by (suc n) (x ∷ xs) le = ap suc (by n xs (omega arith))
 
       shorter : length now ≤ length choices
-      shorter = omega (arith, by now, ap length were)
-        where
-          by : (cs : List Choice) → length cs ≤ length (cs ++ last ∷ [])
-          by [] = omega arith
-          by (x ∷ xs) = omega (arith, by xs)
+      shorter = omega (arith, fewer now last, ap length were)
+
+  pub last_place : (old : List Bound) (choices now : List Choice) (next : ℕ) (last : Choice) → IsSearch c d old choices next → choices ≡ now ++ last ∷ [] → last.place < length d
+  last_place old choices now next last is were =
+      (all_split (λ (o : Choice). o.place < length d) now (last ∷ []) (subst (AllByRecursion (λ (o : Choice). o.place < length d)) were is.places)).1.0
 
   pub found : (bound : List Bound) (choices : List Choice) (next : ℕ) → IsSearch c d bound choices next → length c ≤ length choices → GoesInto c d
   found bound choices next is all =

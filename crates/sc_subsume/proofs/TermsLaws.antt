@@ -1,6 +1,6 @@
 -- A list of terms and a substitution say the same of finitely many literals.
-use Rattle.std.proofs.Common.{◌≡◌, ◌∙◌, sym, ap, subst, refl, ℕ, zero, suc, ◌+◌, ◌<◌, ◌≤◌, ◌↔◌, max, List, [], ◌∷◌, ◌++◌, map, length, get_or, slice_get, drop, All, Contains, Some, arith}
-use Rattle.std.proofs.lemmas.List.{slice_get-get_or, get_or_from_slice_get}
+use Rattle.std.proofs.Common.{◌≡◌, ◌∙◌, sym, ap, ℕ, zero, suc, ◌+◌, ◌<◌, ◌↔◌, max, List, [], ◌∷◌, map, length, slice_get, Contains, Some, arith}
+use Rattle.std.proofs.lemmas.Option.{slice_get-get_or, get_or_from_slice_get}
 use Rattle.std.proofs.lemmas.List.Elements.{All-from_recursion, recursion_from_All}
 use Rattle.std.specs.List.{AllByRecursion, fold}
 use Rattle.sc_data.specs.declared.Literal.{Literal}
@@ -72,8 +72,15 @@ module _ (d : List Literal) where
 
   pub goes_or_open : (c : List Literal) → GoesInto c d ↔ IsOpen c d [] 0 0
   goes_or_open c = (
-    λ h. (value_of h.0, tt, begin (value_of h.0) c (all_so (λ l. Contains d (literal_instance h.0 l)) (Found (value_of h.0)) (found (value_of h.0)) c
-      (recursion_from_All (λ l. Contains d (literal_instance h.0 l)) c h.1))),
-    λ h. (terms_for h.0 c, All-from_recursion (λ l. Contains d (literal_instance (terms_for h.0 c) l)) c
-      (contained h.0 (terms_for h.0 c) c (agrees h.0 c) (finish h.0 c h.2))),
+    λ h. (
+      value_of h.0,
+      tt,
+      begin (value_of h.0) c (all_so (λ l. Contains d (literal_instance h.0 l)) (Found (value_of h.0)) (found (value_of h.0)) c
+          (recursion_from_All (λ l. Contains d (literal_instance h.0 l)) c h.1)),
+    ),
+    λ h. (
+      terms_for h.0 c,
+      All-from_recursion (λ l. Contains d (literal_instance (terms_for h.0 c) l)) c
+          (contained h.0 (terms_for h.0 c) c (agrees h.0 c) (finish h.0 c h.2)),
+    ),
   )

@@ -66,7 +66,11 @@ fn match_terms<'a>(patterns: &[Term], targets: &'a [Term], bound: &mut Vec<Bound
 
 /// Gives variables of the pattern terms that make it the target, sign and all. Whether there are any; where there are
 /// none the bindings are as they were.
-fn match_literal<'a>(pattern: &Literal, target: &'a Literal, bound: &mut Vec<Bound<'a>>) -> Mem<bool>
+fn match_literal<'a>(
+    pattern: &Literal,
+    target: &'a Literal,
+    bound: &mut Vec<Bound<'a>>,
+) -> Mem<bool>
     ensures { IfOk result (λ can. Takes can pattern.now target.now bound.old.items bound.new.items) }
 {
     if !are_like(pattern, target) {

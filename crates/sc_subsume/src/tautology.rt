@@ -14,9 +14,7 @@ use sc_term::{same_term, same_terms};
 fn are_opposite(l: &Literal, m: &Literal) -> bool
     ensures { IsTrue result ↔ AreOpposite l.now m.now }
 {
-    l.positive != m.positive
-        && l.pred == m.pred
-        && same_terms(l.args.as_slice(), m.args.as_slice())
+    l.positive != m.positive && l.pred == m.pred && same_terms(l.args.as_slice(), m.args.as_slice())
 }
 
 /// Whether one of the literals is the opposite of the literal.

@@ -1,4 +1,4 @@
-use Rattle.std.proofs.Common.{◌≡◌, ◌∙◌, sym, subst, ap, true≢false}
+use Rattle.std.proofs.Common.{◌∙◌, sym, subst, true≢false}
 use Rattle.std.proofs.lemmas.List.Elements.{AllWithin-more, at_read}
 use Rattle.std.specs.List.{Any}
 use Rattle.sc_data.specs.declared.Literal.{Literal}

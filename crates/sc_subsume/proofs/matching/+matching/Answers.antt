@@ -1,11 +1,11 @@
-use Rattle.std.proofs.Common.{◌≡◌, ◌∙◌, sym, ap, subst, ℕ, ◌+◌, ◌≤◌, ◌++◌, true, false, map, take, length, arith}
+use Rattle.std.proofs.Common.{◌≡◌, ◌∙◌, sym, ap, subst, ◌+◌, ◌++◌, map, take, arith}
 use Rattle.sc_data.specs.Term.{joined, term_under, term_variables}
 use Rattle.sc_data.proofs.TermLaws.{same_symbol}
 use Rattle.sc_data.proofs.TermSteps.{variables-App}
 use Rattle.sc_subsume.specs.Search.{bindings}
 use Rattle.sc_unify.specs.Matching.{Matches, IsMatched}
 use Rattle.sc_unify.proofs.Unifiers.{differs}
-use Rattle.sc_unify.proofs.MatchingLaws.{answer_converted, arguments_equal, composed, converted, row-more, row-at, variables-more, nothing_matched}
+use Rattle.sc_unify.proofs.MatchingLaws.{answer_converted, arguments_equal, composed, converted, row-more, row-at, variables-more}
 use Rattle.std.proofs.lemmas.List.{take_all}
 use Rattle.sc_subsume.proofs.TakingLaws.{extends_more}
 use Rattle.sc_subsume.proofs.matching.+matching.Goals as goal

@@ -1,6 +1,5 @@
-use Rattle.std.proofs.Common.{◌≡◌, ◌∙◌, sym, subst, ap, ◌<◌, ◌≤◌, true, false, arith}
-use Rattle.sc_unify.specs.Matching.{Gives}
-use Rattle.sc_subsume.specs.Search.{bindings, Takes, IsTaken, IsRefused, HasNoPlace}
+use Rattle.std.proofs.Common.{subst, arith}
+use Rattle.sc_subsume.specs.Search.{Takes, IsTaken, IsRefused}
 use Rattle.sc_subsume.proofs.TakingLaws.{first_place, none-more}
 use Rattle.sc_subsume.proofs.matching.next_place.Goals as goal
 

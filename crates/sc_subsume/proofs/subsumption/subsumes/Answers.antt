@@ -1,0 +1,37 @@
+use Rattle.std.proofs.Common.{◌≡◌, ◌∙◌, sym, subst, ap, refl, ◌≤◌, ◌↔◌, List, length, All, Result, Ok, Err, Bool, IfOk, IsTrue, arith, true≢false}
+use Rattle.std.specs.List.{Any}
+use Rattle.sc_data.specs.declared.Literal.{Literal}
+use Rattle.sc_data.specs.declared.Clause.{Clause}
+use Rattle.sc_data.specs.Clause.{literal_instance}
+use Rattle.sc_subsume.specs.Search.{AreLike, GoesInto}
+use Rattle.sc_subsume.specs.Subsumption.{Subsumes}
+use Rattle.sc_subsume.proofs.subsumption.subsumes.Goals as goal
+use Rattle.sc_subsume.proofs.subsumption.subsumes.Goals.{then-few-many-via-then-few-many, then-few-many-via-else-few-many+then-not-each_has_like}
+
+likes : (c d : Clause) → Subsumes c d → All (λ l. Any (AreLike l) d.literals) c.literals
+likes c d h k x less = let at = h.each k x less in (at.0, literal_instance h.terms _, at.1, at.2, (refl, refl))
+
+counted : {E : Type 0} (r : Result Bool E) (c d : Clause) (few many : List Literal) → few ≡ c.literals → many ≡ d.literals → length few ≤ length many
+    → IfOk r (λ can. IsTrue can ↔ GoesInto few many) → IfOk r (λ can. IsTrue can ↔ Subsumes c d)
+counted (Err e) c d few many p q le h = tt
+counted (Ok can) c d few many p q le h = (
+  λ e. let goes = subst (λ l. GoesInto l d.literals) p (subst (GoesInto few) q (h.0 e)) in
+      record { terms = goes.0; each = goes.1; no_longer = subst (λ l. length l ≤ length d.literals) p (subst (λ l. length few ≤ length l) q le) },
+  λ s. h.1 (subst (GoesInto few) (sym q) (subst (λ l. GoesInto l d.literals) (sym p) (s.terms, s.each))),
+)
+
+pub returns-then-few-many : goal.returns-then-few-many
+returns-then-few-many c = (λ e. absurd (true≢false (sym e)), λ s. absurd (by s))
+  where
+    by : ¬ Subsumes c.args.c.now c.args.d.now
+    by s = elim c.then-few-many.branch [
+      | then-few-many-via-then-few-many w ↦ omega (arith, w.if-few-many.true, s.no_longer, ap length c.as_slice-few.ensures, ap length c.as_slice-many.ensures)
+      | then-few-many-via-else-few-many+then-not-each_has_like w ↦ true≢false (sym (w.each_has_like.ensures.1
+          (subst (λ ds. All (λ l. Any (AreLike l) ds) c.as_slice-few.result.now) (sym c.as_slice-many.ensures)
+          (subst (λ cs. All (λ l. Any (AreLike l) c.args.d.now.literals) cs) (sym c.as_slice-few.ensures) (likes c.args.c.now c.args.d.now s)))) ∙ w.if-not-each_has_like.true)
+    ]
+
+pub returns : goal.returns
+returns c =
+    counted c.goes_into.result c.args.c.now c.args.d.now c.as_slice-few.result.now c.as_slice-many.result.now c.as_slice-few.ensures c.as_slice-many.ensures
+    c.if-few-many.false c.goes_into.ensures
