@@ -8,6 +8,7 @@ use Rattle.sc_data.specs.Substitution.{Substitution, literal_under}
 use Rattle.sc_unify.specs.declared.bound.Binding.{Binding}
 use Rattle.sc_unify.specs.Matching.{Gives, IsFunctional}
 use Rattle.sc_subsume.specs.declared.bound.Bound.{Bound}
+use Rattle.sc_subsume.specs.declared.order.Asked.{Asked}
 use Rattle.sc_subsume.specs.declared.search.Choice.{Choice}
 
 -- ---- what is asked
@@ -15,6 +16,9 @@ use Rattle.sc_subsume.specs.declared.search.Choice.{Choice}
 -- some terms take each literal of c to one of d
 abbrev pub GoesInto : List Literal → List Literal → Type 0
 GoesInto c d = (terms : List Term) × All (λ l. Contains d (literal_instance terms l)) c
+
+abbrev pub literals : List Asked → List Literal
+literals all = map (λ (one : Asked). one.literal.now) all
 
 -- the two literals have the same sign and predicate
 abbrev pub AreLike : Literal → Literal → Type 0

@@ -6,14 +6,15 @@
 //! each of its literals to a literal of the second, and want of memory is its one other answer; `is_tautology` takes no
 //! memory.
 //!
-//! The search takes one literal after another, each to the first literal that it can be made under the bindings so far,
-//! and goes back to the last choice where there is none. Choices and bindings are two stacks, so neither a long clause
+//! The search takes one literal after another, fewest candidates first, each to the first literal that it can be made
+//! under the bindings so far, and goes back to the last choice where there is none. Choices and bindings are two stacks, so neither a long clause
 //! nor a deep search takes the stack of calls, and a binding is undone by cutting its stack.
 #![tactic(auto)]
 
 mod bound;
 mod like;
 mod matching;
+mod order;
 mod search;
 mod subsumption;
 mod tautology;

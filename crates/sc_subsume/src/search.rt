@@ -1,10 +1,11 @@
 //! The search for terms that take each literal of one list to a literal of another.
 
 ghost use Rattle.std.specs.Prelude.{◌↔◌, IfOk, IsTrue};
-ghost use Rattle.sc_subsume.specs.Search.{GoesInto};
+ghost use Rattle.sc_subsume.specs.Search.{GoesInto, literals};
 
 use crate::bound::Bound;
 use crate::matching::next_place;
+use crate::order::Asked;
 use sc_data::Literal;
 use sc_term::Mem;
 use sqlite_items::Items;
@@ -17,17 +18,17 @@ pub struct Choice {
     pub bound: usize,
 }
 
-/// Whether some terms take each literal of `c` to one of `d`, by depth-first search. Exponential in the number of
-/// literals at worst.
-pub fn goes_into(alloc: Global, c: &[Literal], d: &[Literal]) -> Mem<bool>
-    ensures { IfOk result (λ can. IsTrue can ↔ GoesInto c.now d.now) }
+/// Whether some terms take each literal that is asked for to one of `d`, by depth-first search. Exponential in the
+/// number of literals at worst.
+pub fn goes_into(alloc: Global, c: &[Asked], d: &[Literal]) -> Mem<bool>
+    ensures { IfOk result (λ can. IsTrue can ↔ GoesInto (literals c.now) d.now) }
 {
     let mut bound: Vec<Bound> = Vec::new(alloc);
     let mut choices: Items<Choice> = Items::new(alloc);
     let mut next = 0;
     while choices.len() < c.len() {
         let before = bound.len();
-        match next_place(&c[choices.len()], d, next, &mut bound)? {
+        match next_place(c[choices.len()].literal, d, next, &mut bound)? {
             Some(place) => {
                 choices.push(Choice {
                     place,

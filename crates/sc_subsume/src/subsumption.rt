@@ -4,6 +4,7 @@ ghost use Rattle.std.specs.Prelude.{◌↔◌, IfOk, IsTrue};
 ghost use Rattle.sc_subsume.specs.Subsumption.{Subsumes};
 
 use crate::like::each_has_like;
+use crate::order::by_candidates;
 use crate::search::goes_into;
 use sc_data::Clause;
 use sc_term::Mem;
@@ -19,5 +20,6 @@ pub fn subsumes(alloc: Global, c: &Clause, d: &Clause) -> Mem<bool>
     if few.len() > many.len() || !each_has_like(few, many) {
         return Ok(false);
     }
-    goes_into(alloc, few, many)
+    let asked = by_candidates(alloc, few, many)?;
+    goes_into(alloc, asked.as_slice(), many)
 }

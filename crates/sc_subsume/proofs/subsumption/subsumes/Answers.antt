@@ -1,9 +1,11 @@
-use Rattle.std.proofs.Common.{◌≡◌, ◌∙◌, sym, subst, ap, refl, ◌≤◌, ◌↔◌, List, length, All, Result, Ok, Err, Bool, IfOk, IsTrue, arith, true≢false}
+use Rattle.std.proofs.Common.{◌≡◌, ◌∙◌, sym, subst, ap, refl, ◌≤◌, ◌↔◌, List, length, All, Contains, Result, Ok, Err, Bool, IfOk, IsTrue, arith, true≢false}
+use Rattle.std.proofs.lemmas.List.Sorted.{All-permutation, IsPermutation-sym}
 use Rattle.std.specs.List.{Any}
+use Rattle.std.specs.List.Sorted.{IsPermutation}
 use Rattle.sc_data.specs.declared.Literal.{Literal}
 use Rattle.sc_data.specs.declared.Clause.{Clause}
 use Rattle.sc_data.specs.Clause.{literal_instance}
-use Rattle.sc_subsume.specs.Search.{AreLike, GoesInto}
+use Rattle.sc_subsume.specs.Search.{AreLike, GoesInto, literals}
 use Rattle.sc_subsume.specs.Subsumption.{Subsumes}
 use Rattle.sc_subsume.proofs.subsumption.subsumes.Goals as goal
 use Rattle.sc_subsume.proofs.subsumption.subsumes.Goals.{then-few-many-via-then-few-many, then-few-many-via-else-few-many+then-not-each_has_like}
@@ -11,13 +13,21 @@ use Rattle.sc_subsume.proofs.subsumption.subsumes.Goals.{then-few-many-via-then-
 likes : (c d : Clause) → Subsumes c d → All (λ l. Any (AreLike l) d.literals) c.literals
 likes c d h k x less = let at = h.each k x less in (at.0, literal_instance h.terms _, at.1, at.2, (refl, refl))
 
-counted : {E : Type 0} (r : Result Bool E) (c d : Clause) (few many : List Literal) → few ≡ c.literals → many ≡ d.literals → length few ≤ length many
-    → IfOk r (λ can. IsTrue can ↔ GoesInto few many) → IfOk r (λ can. IsTrue can ↔ Subsumes c d)
-counted (Err e) c d few many p q le h = tt
-counted (Ok can) c d few many p q le h = (
-  λ e. let goes = subst (λ l. GoesInto l d.literals) p (subst (GoesInto few) q (h.0 e)) in
+-- the literals in another order go where they do
+reordered : (c d now : List Literal) → IsPermutation c now → GoesInto now d ↔ GoesInto c d
+reordered c d now h = (
+  λ g. (g.0, All-permutation (λ l. Contains d (literal_instance g.0 l)) now c (IsPermutation-sym c now h) g.1),
+  λ g. (g.0, All-permutation (λ l. Contains d (literal_instance g.0 l)) c now h g.1),
+)
+
+counted : {E : Type 0} (r : Result Bool E) (c d : Clause) (few many now : List Literal) → few ≡ c.literals → many ≡ d.literals → IsPermutation few now → length few ≤ length many
+    → IfOk r (λ can. IsTrue can ↔ GoesInto now many) → IfOk r (λ can. IsTrue can ↔ Subsumes c d)
+counted (Err e) c d few many now p q order le h = tt
+counted (Ok can) c d few many now p q order le h = (
+  λ e.
+      let goes = subst (λ l. GoesInto l d.literals) p (subst (GoesInto few) q ((reordered few many now order).0 (h.0 e))) in
       record { terms = goes.0; each = goes.1; no_longer = subst (λ l. length l ≤ length d.literals) p (subst (λ l. length few ≤ length l) q le) },
-  λ s. h.1 (subst (GoesInto few) (sym q) (subst (λ l. GoesInto l d.literals) (sym p) (s.terms, s.each))),
+  λ s. h.1 ((reordered few many now order).1 (subst (GoesInto few) (sym q) (subst (λ l. GoesInto l d.literals) (sym p) (s.terms, s.each)))),
 )
 
 pub returns-then-few-many : goal.returns-then-few-many
@@ -33,5 +43,6 @@ returns-then-few-many c = (λ e. absurd (true≢false (sym e)), λ s. absurd (by
 
 pub returns : goal.returns
 returns c =
-    counted c.goes_into.result c.args.c.now c.args.d.now c.as_slice-few.result.now c.as_slice-many.result.now c.as_slice-few.ensures c.as_slice-many.ensures
-    c.if-few-many.false c.goes_into.ensures
+    let asked = subst (λ all. IsPermutation c.as_slice-few.result.now (literals all)) (sym c.as_slice.ensures.value) c.in_ok-asked.ensures in
+    counted c.goes_into.result c.args.c.now c.args.d.now c.as_slice-few.result.now c.as_slice-many.result.now (literals c.as_slice.result.now) c.as_slice-few.ensures c.as_slice-many.ensures
+    asked c.if-few-many.false c.goes_into.ensures
