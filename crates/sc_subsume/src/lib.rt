@@ -21,3 +21,6 @@ mod tautology;
 
 pub use subsumption::subsumes;
 pub use tautology::is_tautology;
+
+#[cfg(test)]
+mod tests;

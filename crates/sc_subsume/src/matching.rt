@@ -66,7 +66,7 @@ fn match_terms<'a>(patterns: &[Term], targets: &'a [Term], bound: &mut Vec<Bound
 
 /// Gives variables of the pattern terms that make it the target, sign and all. Whether there are any; where there are
 /// none the bindings are as they were.
-fn match_literal<'a>(
+pub fn match_literal<'a>(
     pattern: &Literal,
     target: &'a Literal,
     bound: &mut Vec<Bound<'a>>,

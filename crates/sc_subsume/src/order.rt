@@ -5,41 +5,52 @@ ghost use Rattle.std.specs.Prelude.{◌≤◌, length, IfOk};
 ghost use Rattle.std.specs.List.Sorted.{IsPermutation};
 ghost use Rattle.sc_subsume.specs.Search.{literals};
 
-use crate::like::are_like;
+use crate::bound::Bound;
+use crate::matching::match_literal;
 use sc_data::Literal;
 use sc_term::Mem;
 use std::alloc::Global;
 
-/// A literal that is to be taken to another, and how many have its sign and predicate.
+/// A literal that is to be taken to another, and how many it can be taken to by itself, as far as that was counted.
 #[derive(Clone, Copy)]
 pub struct Asked<'a> {
     pub literal: &'a Literal,
     pub candidates: usize,
 }
 
-/// How many of the literals have the literal's sign and predicate.
-fn count_like(l: &Literal, all: &[Literal]) -> usize
-    ensures { result ≤ length all.now }
+/// How many of the literals the literal can be taken to by itself. The bindings are overwritten.
+fn count_places<'a>(l: &Literal, all: &'a [Literal], bound: &mut Vec<Bound<'a>>) -> Mem<usize>
+    ensures { IfOk result (λ count. count ≤ length all.now) }
 {
     let mut count = 0;
     for m in all {
-        if are_like(l, m) {
+        bound.truncate(0);
+        if match_literal(l, m, bound)? {
             count += 1;
         }
     }
-    count
+    Ok(count)
 }
 
-/// The literals of `c`, by how many of `d` have their sign and predicate.
+/// The literals of `c`, fewest candidates in `d` first.
 pub fn by_candidates<'a>(alloc: Global, c: &'a [Literal], d: &[Literal]) -> Mem<Vec<Asked<'a>>>
     ensures { IfOk result (λ asked. IsPermutation c.now (literals asked.items)) }
 {
+    let mut bound = Vec::new(alloc);
     let mut asked = Vec::new(alloc);
+    // A single literal needs no order, and after one that can go nowhere the order of the others doesn't matter.
+    let mut is_counting = c.len() > 1;
     for literal in c {
+        let candidates = if is_counting {
+            count_places(literal, d, &mut bound)?
+        } else {
+            d.len()
+        };
         asked.push(Asked {
             literal,
-            candidates: count_like(literal, d),
+            candidates,
         })?;
+        is_counting = is_counting && candidates > 0;
     }
     asked.sort_by_key(|one| one.candidates)?;
     Ok(asked)
