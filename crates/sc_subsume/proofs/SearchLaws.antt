@@ -14,7 +14,7 @@ use Rattle.sc_unify.specs.Matching.{Gives, IsFunctional}
 use Rattle.sc_unify.proofs.TermFacts.{all_so}
 use Rattle.sc_subsume.specs.declared.bound.Bound.{Bound}
 use Rattle.sc_subsume.specs.declared.search.Choice.{Choice}
-use Rattle.sc_subsume.specs.Search.{bindings, Hits, HasNoPlace, IsFirstPlace, Reaches, IsOpen, IsWaiting, AreRising, IsSearch, GoesInto}
+use Rattle.sc_subsume.specs.Search.{bindings, Extends, Hits, HasNoPlace, IsFirstPlace, Reaches, IsOpen, IsWaiting, AreRising, IsSearch, GoesInto}
 use Rattle.sc_subsume.proofs.TakingLaws.{front}
 use Rattle.sc_subsume.proofs.TermsLaws.{begin, finish, goes_or_open}
 
@@ -90,6 +90,40 @@ rising_less : (low now : ℕ) (choices : List Choice) (one : Choice) → AreRisi
 rising_less low now [] one h = (h.0, h.1)
 rising_less low now (other ∷ more) one h = let rest = rising_less other.bound now more one h.1 in ((h.0, rest.0), rest.1)
 
+beyond : (m n : ℕ) → (m ≤ n) ⊎ (n < m)
+beyond zero n = inl (omega arith)
+beyond (suc m) zero = inr (omega arith)
+beyond (suc m) (suc n) = elim (beyond m n) [
+  | inl h ↦ inl (omega (arith, h))
+  | inr h ↦ inr (omega (arith, h))
+]
+
+-- ---- the last place that need be tried
+
+pub record IsLastTried (place size tried : ℕ) (old new : List Bound) : Type 0 where
+  pub least : place ≤ tried
+  pub within : tried < size
+  pub why : (tried ≡ place) ⊎ (new ≡ old)
+
+nothing_more : (old new : List Bound) → Extends old new → length new ≤ length old → new ≡ old
+nothing_more old new (added, e) le = by old added new e le
+  where
+    by : (xs ys zs : List Bound) → zs ≡ xs ++ ys → length zs ≤ length xs → zs ≡ xs
+    by [] ys [] e le = refl
+    by [] ys (z ∷ zs) e le = absurd (omega (arith, le))
+    by (x ∷ xs) ys [] e le = cc
+    by (x ∷ xs) ys (z ∷ zs) e le =
+        let head : z ≡ x = cc in
+        let tail : zs ≡ xs ++ ys = cc in
+        λ i. head i ∷ by xs ys zs tail (omega (arith, le)) i
+
+pub last_tried : (place size tried : ℕ) (old new : List Bound) → place < size → Extends old new → (length old < length new → tried ≡ place) → (length new ≤ length old → tried + 1 ≡ size)
+    → IsLastTried place size tried old new
+last_tried place size tried old new within grown taken last = elim (beyond (length new) (length old)) [
+  | inl le ↦ (let end = last le in record { least = omega (arith, end); within = omega (arith, end); why = inr (nothing_more old new grown le) })
+  | inr less ↦ (let same = taken less in record { least = omega (arith, same); within = omega (arith, same); why = inl same })
+]
+
 pub fewer : (now : List Choice) (last : Choice) → length now ≤ length (now ++ last ∷ [])
 fewer [] last = omega arith
 fewer (x ∷ xs) last = omega (arith, fewer xs last)
@@ -132,14 +166,6 @@ module _ (c d : List Literal) where
     rest : drop i c ≡ l ∷ drop (suc i) c
     rest = drop-cons c i l few ∙ ap (λ m. m ∷ drop (suc i) c) (sym at)
 
-    beyond : (k place : ℕ) → (k ≤ place) ⊎ (place < k)
-    beyond zero place = inl (omega arith)
-    beyond (suc k) zero = inr (omega arith)
-    beyond (suc k) (suc place) = elim (beyond k place) [
-      | inl h ↦ inl (omega (arith, h))
-      | inr h ↦ inr (omega (arith, h))
-    ]
-
     closed : (old new : List Bound) → HasNoPlace l d first old new → ¬ IsOpen c d (bindings old) i first
     closed old new h o =
         let r : Reaches o.0 (l ∷ drop (suc i) c) d first = subst (λ ls. Reaches o.0 ls d first) rest o.2 in
@@ -150,13 +176,11 @@ module _ (c d : List Literal) where
         within (x ∷ xs) zero m e = omega arith
         within (x ∷ xs) (suc k) m e = omega (arith, within xs k m e)
 
-    module _ (place : ℕ) (old new : List Bound) (h : IsFirstPlace l d first place old new) where
-      forth : IsOpen c d (bindings old) i first → IsOpen c d (bindings new) (suc i) 0 ⊎ IsOpen c d (bindings old) i (place + 1)
+    -- the place is the first that can be taken, and tried the last that need be tried
+    module _ (place tried : ℕ) (old new : List Bound) (h : IsFirstPlace l d first place old new) (le : place ≤ tried) (why : (tried ≡ place) ⊎ (new ≡ old)) where
+      forth : IsOpen c d (bindings old) i first → IsOpen c d (bindings new) (suc i) 0 ⊎ IsOpen c d (bindings old) i (tried + 1)
       forth o = by (beyond r.0.0 place)
         where
-          s : Substitution
-          s = o.0
-
           r : Reaches o.0 (l ∷ drop (suc i) c) d first
           r = subst (λ ls. Reaches o.0 ls d first) rest o.2
 
@@ -166,17 +190,20 @@ module _ (c d : List Literal) where
             | inr less ↦ absurd (h.earlier o.0 o.1 k low less e)
           ]
 
-          by : (r.0.0 ≤ place) ⊎ (place < r.0.0) → IsOpen c d (bindings new) (suc i) 0 ⊎ IsOpen c d (bindings old) i (place + 1)
+          by : (r.0.0 ≤ place) ⊎ (place < r.0.0) → IsOpen c d (bindings new) (suc i) 0 ⊎ IsOpen c d (bindings old) i (tried + 1)
           by (inl le) = inl (o.0, (h.same o.0).1 (o.1, subst (Hits o.0 l d) (exactly r.0.0 le r.0.1 r.0.2) r.0.2), begin d o.0 (drop (suc i) c) r.1)
-          by (inr more) = inr (o.0, o.1, subst (λ ls. Reaches o.0 ls d (place + 1)) (sym rest) ((r.0.0, omega (arith, more), r.0.2), r.1))
+          by (inr more) = elim why [
+            | inl same ↦ inr (o.0, o.1, subst (λ ls. Reaches o.0 ls d (tried + 1)) (sym rest) ((r.0.0, omega (arith, more, same), r.0.2), r.1))
+            | inr same ↦ inl (o.0, subst (λ bs. Gives o.0 (bindings bs)) (sym same) o.1, begin d o.0 (drop (suc i) c) r.1)
+          ]
 
-      back : IsOpen c d (bindings new) (suc i) 0 ⊎ IsOpen c d (bindings old) i (place + 1) → IsOpen c d (bindings old) i first
+      back : IsOpen c d (bindings new) (suc i) 0 ⊎ IsOpen c d (bindings old) i (tried + 1) → IsOpen c d (bindings old) i first
       back (inl o) =
           let both = (h.same o.0).0 o.1 in
           (o.0, both.0, subst (λ ls. Reaches o.0 ls d first) (sym rest) ((place, h.least, both.1), finish d o.0 (drop (suc i) c) o.2))
       back (inr o) =
-          let r : Reaches o.0 (l ∷ drop (suc i) c) d (place + 1) = subst (λ ls. Reaches o.0 ls d (place + 1)) rest o.2 in
-          (o.0, o.1, subst (λ ls. Reaches o.0 ls d first) (sym rest) ((r.0.0, omega (arith, r.0.1, h.least), r.0.2), r.1))
+          let r : Reaches o.0 (l ∷ drop (suc i) c) d (tried + 1) = subst (λ ls. Reaches o.0 ls d (tried + 1)) rest o.2 in
+          (o.0, o.1, subst (λ ls. Reaches o.0 ls d first) (sym rest) ((r.0.0, omega (arith, r.0.1, h.least, le), r.0.2), r.1))
 
   -- ---- the steps of the search
 
@@ -192,29 +219,27 @@ module _ (c d : List Literal) where
 
   pub chosen : (old new : List Bound) (choices now : List Choice) (next place : ℕ) (l : Literal) (one : Choice)
       → IsSearch c d old choices next → length choices < length c → l ≡ get_or c (length choices) l → IsFirstPlace l d next place old new
-      → one.place ≡ place → one.bound ≡ length old → now ≡ choices ++ one ∷ [] → IsSearch c d new now 0
-  chosen old new choices now next place l one is few at h same_place same_bound grown = subst (λ cs. IsSearch c d new cs 0) (sym grown) (record {
+      → IsLastTried place (length d) one.place old new → one.bound ≡ length old → now ≡ choices ++ one ∷ [] → IsSearch c d new now 0
+  chosen old new choices now next place l one is few at h tried same_bound grown = subst (λ cs. IsSearch c d new cs 0) (sym grown) (record {
     same = (
       λ o. elim (is.same.0 o) [
-        | inl here ↦ elim (forth (length choices) next l few at place old new h here) [
+        | inl here ↦ elim (forth (length choices) next l few at place one.place old new h tried.least tried.why here) [
           | inl further ↦ inl (subst (λ k. IsOpen c d (bindings new) k 0) (sym more) further)
-          | inr other ↦ inr (waits_last (bindings new) 0 (length choices) choices one (omega arith) (subst (λ bs. IsOpen c d bs (length choices) (one.place + 1)) (sym part)
-              (subst (λ k. IsOpen c d (bindings old) (length choices) (k + 1)) (sym same_place) other)))
+          | inr other ↦ inr (waits_last (bindings new) 0 (length choices) choices one (omega arith) (subst (λ bs. IsOpen c d bs (length choices) (one.place + 1)) (sym part) other))
         ]
         | inr before ↦ inr (waits_before (bindings new) 0 choices one (waiting_same (bindings old) (bindings new) (length old) 0 0 choices is.rising fronts before))
       ],
       λ o. is.same.1 (elim o [
-        | inl further ↦ inl (back (length choices) next l few at place old new h (inl (subst (λ k. IsOpen c d (bindings new) k 0) more further)))
+        | inl further ↦ inl (back (length choices) next l few at place one.place old new h tried.least tried.why (inl (subst (λ k. IsOpen c d (bindings new) k 0) more further)))
         | inr waits ↦ elim (waiting_last (bindings new) 0 (length choices) choices one (omega arith) waits) [
           | inl before ↦ inr (waiting_same (bindings new) (bindings old) (length old) 0 0 choices is.rising (sym fronts) before)
-          | inr last ↦ inl (back (length choices) next l few at place old new h (inr (subst (λ k. IsOpen c d (bindings old) (length choices) (k + 1)) same_place
-              (subst (λ bs. IsOpen c d bs (length choices) (one.place + 1)) part last))))
+          | inr last ↦ inl (back (length choices) next l few at place one.place old new h tried.least tried.why (inr (subst (λ bs. IsOpen c d bs (length choices) (one.place + 1)) part last)))
         ]
       ]),
     );
     functional = h.functional is.functional;
     rising = rising_more 0 (length old) (length new) choices one is.rising same_bound longer;
-    places = all_join (λ (o : Choice). o.place < length d) choices (one ∷ []) is.places (omega (arith, h.within), tt);
+    places = all_join (λ (o : Choice). o.place < length d) choices (one ∷ []) is.places (tried.within, tt);
     few = omega (arith, more);
     within = omega arith;
   })

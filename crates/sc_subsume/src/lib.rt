@@ -7,8 +7,9 @@
 //! memory.
 //!
 //! The search takes one literal after another, fewest candidates first, each to the first literal that it can be made
-//! under the bindings so far, and goes back to the last choice where there is none. Choices and bindings are two stacks, so neither a long clause
-//! nor a deep search takes the stack of calls, and a binding is undone by cutting its stack.
+//! under the bindings so far, and goes back to the last choice where there is none; a literal that binds nothing is no
+//! choice. The order serves speed alone, so no clause speaks of the counts. Choices and bindings are two stacks, so
+//! neither a long clause nor a deep search takes the stack of calls, and bindings are undone by cutting theirs.
 #![tactic(auto)]
 
 mod bound;

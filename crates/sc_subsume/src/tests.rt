@@ -42,7 +42,7 @@ const PAIRS: [(&[Row], &[Row], bool); 8] = [
     ),
     (&[(true, 1, b"00")], &[(true, 1, b"ab")], false),
     (&[], &[(false, 2, b"")], true),
-    // The first place of each literal of the first clause doesn't lead to an answer.
+    // The first place of the first literal leads nowhere.
     (
         &[(true, 1, b"01"), (true, 1, b"12")],
         &[(true, 1, b"ab"), (true, 1, b"ca")],

@@ -29,10 +29,13 @@ loop-bound-smaller-in-Some c =
     let next = c.loop-bound.next in
     let l = (get_or c.args.c.now c.len-in-loop-bound.result c.index-c-len.result).literal.now in
     let h = subst (λ o. MatchOption o (HasNoPlace l ds next old new) (λ place. IsFirstPlace l ds next place old new)) c.in-Some.is c.in_ok-place.ensures in
-    let one : Choice = record { place = c.in-Some.place; bound = c.len-before.result } in
+    let one : Choice = record { place = c.last_tried.result; bound = c.len-before.result } in
     let few : length choices < length cs = omega (arith, c.loop-bound-test.true, c.len.ensures, length_literals c.args.c.now) in
+    let before : c.len-before.result ≡ length old = omega arith in
+    let tried = search_laws.last_tried c.in-Some.place (length ds) c.last_tried.result old new h.within h.extends
+    (λ less. c.last_tried.ensures.taken (omega arith)) (λ le. let end = c.last_tried.ensures.last (omega arith) in omega (arith, end)) in
     subst (λ now. left_to_try (length ds) (length cs) now 0 < left_to_try (length ds) (length cs) choices next) (sym c.in_ok-push-in-Some.ensures.ok)
-    (left_laws.chosen (length ds) (length cs) choices one next few h.least h.within)
+    (left_laws.chosen (length ds) (length cs) choices one next few (omega (arith, h.least, tried.least)) tried.within)
 
 pub loop-bound-preserved-in-Some : goal.loop-bound-preserved-in-Some
 loop-bound-preserved-in-Some c =
@@ -44,11 +47,13 @@ loop-bound-preserved-in-Some c =
     let next = c.loop-bound.next in
     let l = (get_or c.args.c.now c.len-in-loop-bound.result c.index-c-len.result).literal.now in
     let h = subst (λ o. MatchOption o (HasNoPlace l ds next old new) (λ place. IsFirstPlace l ds next place old new)) c.in-Some.is c.in_ok-place.ensures in
-    let one : Choice = record { place = c.in-Some.place; bound = c.len-before.result } in
+    let one : Choice = record { place = c.last_tried.result; bound = c.len-before.result } in
     let few : length choices < length cs = omega (arith, c.loop-bound-test.true, c.len.ensures, length_literals c.args.c.now) in
     let at : l ≡ get_or cs (length choices) l = asked_at c.args.c.now c.len-in-loop-bound.result (length choices) c.index-c-len.result (omega (arith, few, c.len-in-loop-bound.ensures, length_literals c.args.c.now)) c.len-in-loop-bound.ensures in
     let before : c.len-before.result ≡ length old = omega arith in
-    search_laws.chosen cs ds old new choices c.push.new.self next c.in-Some.place l one c.loop-bound.invariant few at h refl before c.in_ok-push-in-Some.ensures.ok
+    let tried = search_laws.last_tried c.in-Some.place (length ds) c.last_tried.result old new h.within h.extends
+    (λ less. c.last_tried.ensures.taken (omega arith)) (λ le. let end = c.last_tried.ensures.last (omega arith) in omega (arith, end)) in
+    search_laws.chosen cs ds old new choices c.push.new.self next c.in-Some.place l one c.loop-bound.invariant few at h tried before c.in_ok-push-in-Some.ensures.ok
 
 pub overflow_add-next : goal.overflow_add-next
 overflow_add-next c =
