@@ -337,3 +337,15 @@ module _ (c d : List Literal) where
     | inl here ↦ closed (length choices) next l few at old mid h here
     | inr waits ↦ subst (IsWaiting c d (bindings old) 0) none waits
   ]
+
+-- ---- a single literal
+
+pub found_one : (l : Literal) (d : List Literal) (place : ℕ) (old new : List Bound) → old ≡ [] → IsFirstPlace l d 0 place old new → GoesInto (l ∷ []) d
+found_one l d place old new empty first = by (subst (λ bs. IsFirstPlace l d 0 place bs new) empty first)
+  where
+    by : IsFirstPlace l d 0 place [] new → GoesInto (l ∷ []) d
+    by h = let s = given (bindings new) (h.functional tt) in (goes_or_open d (l ∷ [])).1 (s.0, tt, ((place, (omega arith), ((h.same s.0).0 s.1).1), tt))
+
+pub none_of_one : (l : Literal) (d : List Literal) (old new : List Bound) → old ≡ [] → HasNoPlace l d 0 old new → ¬ GoesInto (l ∷ []) d
+none_of_one l d old new empty none g =
+    closed (l ∷ []) d 0 0 l (omega arith) refl [] new (subst (λ bs. HasNoPlace l d 0 bs new) empty none) ((goes_or_open d (l ∷ [])).0 g)

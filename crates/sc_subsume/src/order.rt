@@ -38,8 +38,8 @@ pub fn by_candidates<'a>(alloc: Global, c: &'a [Literal], d: &[Literal]) -> Mem<
 {
     let mut bound = Vec::new(alloc);
     let mut asked = Vec::new(alloc);
-    // A single literal needs no order, and after one that can go nowhere the order of the others doesn't matter.
-    let mut is_counting = c.len() > 1;
+    // After a literal that can go nowhere the order of the others doesn't matter.
+    let mut is_counting = true;
     for literal in c {
         let candidates = if is_counting {
             count_places(literal, d, &mut bound)?

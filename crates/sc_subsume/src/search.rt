@@ -1,6 +1,6 @@
 //! The search for terms that take each literal of one list to a literal of another.
 
-ghost use Rattle.std.specs.Prelude.{◌≡◌, ◌↔◌, ◌<◌, ◌≤◌, ◌+◌, IfOk, IsTrue};
+ghost use Rattle.std.specs.Prelude.{◌≡◌, ◌∷◌, [], ◌↔◌, ◌<◌, ◌≤◌, ◌+◌, IfOk, IsTrue};
 ghost use Rattle.sc_subsume.specs.Search.{GoesInto, literals};
 
 use crate::bound::Bound;
@@ -28,6 +28,17 @@ fn last_tried(place: usize, places: usize, before: usize, now: usize) -> usize
     ensures last { now ≤ before → result + 1 ≡ places }
 {
     if before < now { place } else { places - 1 }
+}
+
+/// Whether some terms take the literal to one of `d`.
+pub fn one_goes_into(alloc: Global, l: &Literal, d: &[Literal]) -> Mem<bool>
+    ensures { IfOk result (λ can. IsTrue can ↔ GoesInto (l.now ∷ []) d.now) }
+{
+    let mut bound = Vec::new(alloc);
+    match next_place(l, d, 0, &mut bound)? {
+        Some(_) => Ok(true),
+        None => Ok(false),
+    }
 }
 
 /// Whether some terms take each literal that is asked for to one of `d`, by depth-first search. Exponential in the

@@ -5,7 +5,7 @@ ghost use Rattle.sc_subsume.specs.Subsumption.{Subsumes};
 
 use crate::like::each_has_like;
 use crate::order::by_candidates;
-use crate::search::goes_into;
+use crate::search::{goes_into, one_goes_into};
 use sc_data::Clause;
 use sc_term::Mem;
 use std::alloc::Global;
@@ -19,6 +19,9 @@ pub fn subsumes(alloc: Global, c: &Clause, d: &Clause) -> Mem<bool>
     let (few, many) = (c.literals.as_slice(), d.literals.as_slice());
     if few.len() > many.len() || !each_has_like(few, many) {
         return Ok(false);
+    }
+    if let [only] = few {
+        return one_goes_into(alloc, only, many);
     }
     let asked = by_candidates(alloc, few, many)?;
     goes_into(alloc, asked.as_slice(), many)

@@ -1,5 +1,5 @@
-use Rattle.std.proofs.Common.{◌≡◌, ◌∙◌, sym, subst, ap, refl, ◌≤◌, ◌↔◌, List, length, All, Contains, Result, Ok, Err, Bool, IfOk, IsTrue, arith, true≢false}
-use Rattle.std.proofs.lemmas.List.Sorted.{All-permutation, IsPermutation-sym}
+use Rattle.std.proofs.Common.{◌≡◌, ◌∙◌, sym, subst, ap, refl, ◌≤◌, ◌↔◌, [], ◌∷◌, get_or, List, length, All, Contains, Result, Ok, Err, Bool, IfOk, IsTrue, arith, true≢false}
+use Rattle.std.proofs.lemmas.List.Sorted.{All-permutation, IsPermutation-sym, IsPermutation-refl}
 use Rattle.std.specs.List.{Any}
 use Rattle.std.specs.List.Sorted.{IsPermutation}
 use Rattle.sc_data.specs.declared.Literal.{Literal}
@@ -46,3 +46,16 @@ returns c =
     let asked = subst (λ all. IsPermutation c.as_slice-few.result.now (literals all)) (sym c.as_slice.ensures.value) c.in_ok-asked.ensures in
     counted c.goes_into.result c.args.c.now c.args.d.now c.as_slice-few.result.now c.as_slice-many.result.now (literals c.as_slice.result.now) c.as_slice-few.ensures c.as_slice-many.ensures
     asked c.if-few-many.false c.goes_into.ensures
+
+single : (xs : List Literal) (x : Literal) → length xs ≡ 1 → x ≡ get_or xs 0 x → xs ≡ x ∷ []
+single [] x e at = absurd (omega (arith, e))
+single (y ∷ []) x e at = ap (λ z. z ∷ []) (sym at)
+single (y ∷ z ∷ zs) x e at = absurd (omega (arith, e))
+
+pub returns-in-len1 : goal.returns-in-len1
+returns-in-len1 c =
+    let few = c.as_slice-few.result.now in
+    let only = c.only-item.result in
+    let long : length few ≡ 1 = omega (arith, c.in-len1.len_at_least, c.in-len1.len_below) in
+    counted c.one_goes_into.result c.args.c.now c.args.d.now few c.as_slice-many.result.now (only ∷ []) c.as_slice-few.ensures c.as_slice-many.ensures
+    (subst (IsPermutation few) (single few only long c.only-item.is) (IsPermutation-refl few)) c.if-few-many.false c.one_goes_into.ensures
