@@ -12,7 +12,7 @@ use std::alloc::Global;
 
 /// Whether `c` has no more literals than `d`, and some terms in place of its variables take each of its literals to one
 /// of `d`. Two literals may go to one. The variables of `d` stay as they are, and may have the numbers of those of `c`.
-/// The time is exponential in the number of literals at worst.
+/// The time is exponential in the number of variables of `c` at worst.
 pub fn subsumes(alloc: Global, c: &Clause, d: &Clause) -> Mem<bool>
     ensures { IfOk result (λ can. IsTrue can ↔ Subsumes c.now d.now) }
 {
