@@ -16,3 +16,6 @@ mod term;
 
 pub use clause::print_clause;
 pub use proof::print_proof;
+
+#[cfg(test)]
+mod tests;
