@@ -2,3 +2,4 @@ pub mod TextLaws
 pub mod PrintingExamples
 pub mod ProofExamples
 pub mod ProofFaults
+pub mod WordTokens
