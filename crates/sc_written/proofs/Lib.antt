@@ -3,3 +3,4 @@ pub mod PrintingExamples
 pub mod ProofExamples
 pub mod ProofFaults
 pub mod WordTokens
+pub mod NumberTexts
