@@ -4,3 +4,4 @@ pub mod ProofExamples
 pub mod ProofFaults
 pub mod WordTokens
 pub mod NumberTexts
+pub mod SymbolTexts
