@@ -5,3 +5,4 @@ pub mod ProofFaults
 pub mod WordTokens
 pub mod NumberTexts
 pub mod SymbolTexts
+pub mod TermSpelling

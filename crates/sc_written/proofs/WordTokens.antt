@@ -172,3 +172,15 @@ word_token at (b ∷ bs) rest e breaks =
 pub falsum_token : (at : ℕ) (rest : List ℕ) → Breaks rest → tokens_at at (codes "$F" ++ rest) ≡ Word at (codes "$F") ∷ tokens_at (past (codes "$F") at) rest
 unfolding tokens_at raw
 falsum_token at rest breaks = ap (map with_dollars_refused) (raw_word at 36 (70 ∷ []) rest refl refl breaks)
+
+pub name_is_not_falsum : (w : List ℕ) → is_name w ≡ true → same_text (codes "$F") w ≡ false
+name_is_not_falsum [] e = refl
+name_is_not_falsum (b ∷ bs) e = by (36 == b) refl
+  where
+    by : (c : Bool) → (36 == b) ≡ c → (c && same_text (70 ∷ []) bs) ≡ false
+    by true h =
+        let is : 36 ≡ b = eqb-true 36 b h in
+        let p = parts_hold (is_name_byte b) (list_all is_name_byte bs) e in
+        let no_name : is_name_byte b ≡ false = ap is_name_byte (sym is) in
+        absurd cc
+    by false h = refl
