@@ -119,74 +119,67 @@ terms_spelt symbols t (u ∷ us) at rest h may breaks =
     let s = h.0 at (44 ∷ (joined_by (codes ",") (map (term_text symbols) (u ∷ us)) ++ rest)) may.0 refl in
     more_spelt symbols t u us at rest s (terms_spelt symbols u us (s.next + 1) rest h.1 may.1 breaks)
 
--- ---- symbols
+-- ---- names with their arguments
 
-constant_spelt : (symbols : List Symbol) (f : SymId) (at : ℕ) (rest : List ℕ) → AreNamed symbols → is_used_as symbols Function f 0 ≡ true → Breaks rest → TermSpelt symbols (App f []) at rest
-constant_spelt symbols f at rest h used breaks =
-    let s = symbol_is symbols Function f 0 used in
-    let w = s.name in
-    let named = function_named symbols f w 0 h s.here in
-    let symbol : Symbol = record { name = w; arity = 0; role = Function } in
-    let text : term_text symbols (App f []) ≡ w = text-App symbols f [] ∙ name_is symbols f symbol s.here in
+-- the tree of a name with arguments, which stands before the rest of a text
+pub record ApplicationSpelt (symbols : List Symbol) (name : List ℕ) (ts : List Term) (at : ℕ) (rest : List ℕ) : Type 0 where
+  pub head : Head
+  pub args : Sides
+  pub next : ℕ
+  pub tokens : tokens_at at (applied name (map (term_text symbols) ts) ++ rest) ≡ side_tokens head args ++ tokens_at next rest
+  pub text : head.text ≡ name
+  pub terms : terms text_variable symbols args ≡ ts
+  pub named : IsName head
+  pub names : AreNames args
+
+name_spelt : (symbols : List Symbol) (name : List ℕ) (at : ℕ) (rest : List ℕ) → is_name name ≡ true → Breaks rest → ApplicationSpelt symbols name [] at rest
+name_spelt symbols name at rest named breaks =
     record {
-      head = record { at = at; text = w; opening = 0; closing = 0 };
+      head = record { at = at; text = name; opening = 0; closing = 0 };
       args = Empty;
-      next = past w at;
-      tokens = ap (λ (s : List ℕ). tokens_at at (s ++ rest)) text ∙ word_token at w rest named.name breaks;
-      term =
-          ap (λ (v : Option ℕ). elim v [ Some n ↦ Var n | None ↦ App (symbol_number symbols symbol) [] ]) (no_variable (record { at = at; name = w; arity = 0 }) named.constant)
-          ∙ ap (λ (g : SymId). App g []) (symbol_back symbols f symbol h.signature s.here);
-      name = name_is_not_falsum w named.name;
+      next = past name at;
+      tokens = word_token at name rest named breaks;
+      text = refl;
+      terms = refl;
+      named = name_is_not_falsum name named;
       names = tt;
     }
 
-has_arguments : (at n : ℕ) (name : List ℕ) → is_variable (record { at = at; name = name; arity = n + 1 }) ≡ false
-has_arguments at n name = by (n + 1 == 0) refl
-  where
-    by : (b : Bool) → (n + 1 == 0) ≡ b → (b && begins (λ b. nat_le 117 b && nat_le b 122) name) ≡ false
-    by true e = let k : n + 1 ≡ 0 = eqb-true (n + 1) 0 e in absurd (omega arith)
-    by false e = refl
-
-compound_spelt : (symbols : List Symbol) (f : SymId) (t : Term) (ts : List Term) (at : ℕ) (rest : List ℕ) → AreNamed symbols → is_used_as symbols Function f (length (t ∷ ts)) ≡ true
-    → AllByRecursion (IsSpelt symbols) (t ∷ ts) → AllByRecursion (MayStand symbols) (t ∷ ts) → TermSpelt symbols (App f (t ∷ ts)) at rest
-compound_spelt symbols f t ts at rest h used spelt may =
-    let n = length (t ∷ ts) in
-    let s = symbol_is symbols Function f n used in
-    let w = s.name in
-    let named = function_named symbols f w n h s.here in
-    let symbol : Symbol = record { name = w; arity = n; role = Function } in
+arguments_spelt : (symbols : List Symbol) (name : List ℕ) (t : Term) (ts : List Term) (at : ℕ) (rest : List ℕ) → is_name name ≡ true
+    → AllByRecursion (IsSpelt symbols) (t ∷ ts) → AllByRecursion (MayStand symbols) (t ∷ ts) → ApplicationSpelt symbols name (t ∷ ts) at rest
+arguments_spelt symbols w t ts at rest named spelt may =
     let inside = joined_by (codes ",") (map (term_text symbols) (t ∷ ts)) in
     let o = past w at in
     let m = terms_spelt symbols t ts (o + 1) (41 ∷ rest) spelt may refl in
     let args = Entry m.head m.args m.comma m.others in
-    let text : term_text symbols (App f (t ∷ ts)) ≡ w ++ (codes "(" ++ inside ++ codes ")") =
-        text-App symbols f (t ∷ ts) ∙ ap (λ (name : List ℕ). name ++ (codes "(" ++ inside ++ codes ")")) (name_is symbols f symbol s.here) in
-    let split : (w ++ (40 ∷ (inside ++ codes ")"))) ++ rest ≡ w ++ (40 ∷ (inside ++ (41 ∷ rest))) =
-        append_assoc w (40 ∷ (inside ++ codes ")")) rest ∙ ap (λ (us : List ℕ). w ++ (40 ∷ us)) (append_assoc inside (codes ")") rest) in
-    let many : count args ≡ n = sym (terms-length text_variable symbols args) ∙ ap (λ (ts : List Term). length ts) m.terms in
     let tail = tokens_at (m.next + 1) rest in
     record {
       head = record { at = at; text = w; opening = o; closing = m.next };
       args = Entry m.head m.args m.comma m.others;
       next = m.next + 1;
       tokens =
-          ap (λ (s : List ℕ). tokens_at at (s ++ rest)) text ∙ ap (tokens_at at) split
-          ∙ word_token at w (40 ∷ (inside ++ (41 ∷ rest))) named.name refl
+          ap (tokens_at at) (append_assoc w (40 ∷ (inside ++ codes ")")) rest ∙ ap (λ (us : List ℕ). w ++ (40 ∷ us)) (append_assoc inside (codes ")") rest))
+          ∙ word_token at w (40 ∷ (inside ++ (41 ∷ rest))) named refl
           ∙ ap (λ (us : List Token). Word at w ∷ us) (open_token o (inside ++ (41 ∷ rest)))
           ∙ ap (λ (us : List Token). Word at w ∷ Punctuation o Open ∷ us) (m.tokens ∙ ap (λ (us : List Token). tokens_of args ++ us) (close_token m.next rest))
           ∙ ap (λ (us : List Token). Word at w ∷ Punctuation o Open ∷ us) (sym (append_assoc (tokens_of args) (Punctuation m.next Close ∷ []) tail));
-      term =
-          ap (λ (v : Option ℕ). elim v [ Some n ↦ Var n | None ↦ App (symbol_number symbols (record { name = w; arity = count args; role = Function })) (terms text_variable symbols args) ])
-          (no_variable (record { at = at; name = w; arity = count args }) (has_arguments at (count m.others) w))
-          ∙ (λ i. App (symbol_number symbols (record { name = w; arity = many i; role = Function })) (m.terms i))
-          ∙ ap (λ (g : SymId). App g (t ∷ ts)) (symbol_back symbols f symbol h.signature s.here);
-      name = name_is_not_falsum w named.name;
+      text = refl;
+      terms = m.terms;
+      named = name_is_not_falsum w named;
       names = m.names;
     }
 
+application_spelt : (symbols : List Symbol) (name : List ℕ) (ts : List Term) (at : ℕ) (rest : List ℕ) → is_name name ≡ true
+    → AllByRecursion (IsSpelt symbols) ts → AllByRecursion (MayStand symbols) ts → Breaks rest → ApplicationSpelt symbols name ts at rest
+application_spelt symbols name [] at rest named spelt may breaks = name_spelt symbols name at rest named breaks
+application_spelt symbols name (t ∷ ts) at rest named spelt may breaks = arguments_spelt symbols name t ts at rest named spelt may
+
+pub application_count : (symbols : List Symbol) (name : List ℕ) (ts : List Term) (at : ℕ) (rest : List ℕ) (a : ApplicationSpelt symbols name ts at rest) → count a.args ≡ length ts
+application_count symbols name ts at rest a = sym (terms-length text_variable symbols a.args) ∙ ap (λ (ts : List Term). length ts) a.terms
+
 -- ---- terms
 
-all_may_stand : (symbols : List Symbol) (ts : List Term) → list_all (λ b. b) (map (term_is_over symbols) ts) ≡ true → largest (map term_width ts) ≤ 65536 → AllByRecursion (MayStand symbols) ts
+pub all_may_stand : (symbols : List Symbol) (ts : List Term) → list_all (λ b. b) (map (term_is_over symbols) ts) ≡ true → largest (map term_width ts) ≤ 65536 → AllByRecursion (MayStand symbols) ts
 all_may_stand symbols [] e le = tt
 all_may_stand symbols (t ∷ ts) e le =
     let p = parts_hold (term_is_over symbols t) (list_all (λ b. b) (map (term_is_over symbols) ts)) e in
@@ -196,15 +189,28 @@ all_may_stand symbols (t ∷ ts) e le =
 symbol_spelt : (symbols : List Symbol) (f : SymId) (ts : List Term) → AreNamed symbols → AllByRecursion (IsSpelt symbols) ts → IsSpelt symbols (App f ts)
 symbol_spelt symbols f ts h spelt at rest may breaks =
     let bs = map (term_is_over symbols) ts in
+    let n = length ts in
     let over : (is_used_as symbols Function f (length bs) && list_all (λ b. b) bs) ≡ true = sym (fold-App Bool (over_step symbols) f ts) ∙ may.over in
     let p = parts_hold (is_used_as symbols Function f (length bs)) (list_all (λ b. b) bs) over in
-    let used = ap (λ (n : ℕ). is_used_as symbols Function f n) (sym (length-map ts (term_is_over symbols))) ∙ p.0 in
+    let s = symbol_is symbols Function f n (ap (λ (n : ℕ). is_used_as symbols Function f n) (sym (length-map ts (term_is_over symbols))) ∙ p.0) in
+    let symbol : Symbol = record { name = s.name; arity = n; role = Function } in
+    let named = function_named symbols f s.name n h s.here in
     let width = width-App f ts in
-    by ts used spelt (all_may_stand symbols ts p.1 (let n = may.narrow in omega arith))
-  where
-    by : (ts : List Term) → is_used_as symbols Function f (length ts) ≡ true → AllByRecursion (IsSpelt symbols) ts → AllByRecursion (MayStand symbols) ts → TermSpelt symbols (App f ts) at rest
-    by [] used spelt all = constant_spelt symbols f at rest h used breaks
-    by (t ∷ ts) used spelt all = compound_spelt symbols f t ts at rest h used spelt all
+    let all = all_may_stand symbols ts p.1 (let n = may.narrow in omega arith) in
+    let a = application_spelt symbols s.name ts at rest named.name spelt all breaks in
+    let many = application_count symbols s.name ts at rest a in
+    record {
+      head = a.head;
+      args = a.args;
+      next = a.next;
+      tokens = ap (λ (us : List ℕ). tokens_at at (us ++ rest)) (text-App symbols f ts ∙ ap (λ (name : List ℕ). applied name (map (term_text symbols) ts)) (name_is symbols f symbol s.here)) ∙ a.tokens;
+      term =
+          (λ i. term_from text_variable symbols (record { at = a.head.at; name = a.text i; arity = many i }) (a.terms i))
+          ∙ ap (λ (v : Option ℕ). elim v [ Some n ↦ Var n | None ↦ App (symbol_number symbols symbol) ts ]) (no_variable (record { at = a.head.at; name = s.name; arity = n }) named.constant)
+          ∙ ap (λ (g : SymId). App g ts) (symbol_back symbols f symbol h.signature s.here);
+      name = a.named;
+      names = a.names;
+    }
 
 pub term_spelt : (symbols : List Symbol) → AreNamed symbols → (t : Term) (at : ℕ) (rest : List ℕ) → MayStand symbols t → Breaks rest → TermSpelt symbols t at rest
 term_spelt symbols h t =
@@ -218,3 +224,7 @@ all_spelt symbols h (t ∷ ts) = (term_spelt symbols h t, all_spelt symbols h ts
 
 pub row_spelt : (symbols : List Symbol) → AreNamed symbols → (t : Term) (ts : List Term) (at : ℕ) (rest : List ℕ) → AllByRecursion (MayStand symbols) (t ∷ ts) → Breaks rest → TermsSpelt symbols (t ∷ ts) at rest
 row_spelt symbols h t ts at rest may breaks = terms_spelt symbols t ts at rest (all_spelt symbols h (t ∷ ts)) may breaks
+
+pub atom_spelt : (symbols : List Symbol) → AreNamed symbols → (name : List ℕ) (ts : List Term) (at : ℕ) (rest : List ℕ) → is_name name ≡ true → AllByRecursion (MayStand symbols) ts → Breaks rest
+    → ApplicationSpelt symbols name ts at rest
+atom_spelt symbols h name ts at rest named may breaks = application_spelt symbols name ts at rest named (all_spelt symbols h ts) may breaks
