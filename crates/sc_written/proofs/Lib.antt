@@ -6,3 +6,4 @@ pub mod WordTokens
 pub mod NumberTexts
 pub mod SymbolTexts
 pub mod TermSpelling
+pub mod LiteralSpelling
