@@ -7,3 +7,5 @@ pub mod NumberTexts
 pub mod SymbolTexts
 pub mod TermSpelling
 pub mod LiteralSpelling
+pub mod ClauseSpelling
+pub mod ClauseBack
