@@ -9,3 +9,5 @@ pub mod TermSpelling
 pub mod LiteralSpelling
 pub mod ClauseSpelling
 pub mod ClauseBack
+pub mod LineText
+pub mod WordRows
