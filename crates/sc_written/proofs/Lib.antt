@@ -11,3 +11,4 @@ pub mod ClauseSpelling
 pub mod ClauseBack
 pub mod LineText
 pub mod WordRows
+pub mod NumberBack
