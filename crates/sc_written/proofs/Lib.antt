@@ -12,3 +12,4 @@ pub mod ClauseBack
 pub mod LineText
 pub mod WordRows
 pub mod NumberBack
+pub mod StepSpelling

@@ -1,0 +1,183 @@
+-- The tokens of the text of a step are those of a tree, which is read as that step.
+use Rattle.std.proofs.Common.{◌≡◌, ◌≢◌, ◌∙◌, sym, ap, refl, ℕ, ◌+◌, ◌<◌, ◌≤◌, ◌^◌, true, List, [], ◌∷◌, ◌++◌, length, map, append_assoc, Ok, arith}
+use Rattle.std.specs.Prelude.{codes, decimal}
+use Rattle.std.specs.List.{AllByRecursion}
+use Rattle.std.proofs.lemmas.List.{length-append}
+use Rattle.sc_data.specs.declared.Term.{Term}
+use Rattle.sc_data.specs.declared.Side.{Side}
+use Rattle.sc_data.specs.declared.Side.TheVariants.{Left, Right}
+use Rattle.sc_data.specs.declared.Step.{Step}
+use Rattle.sc_data.specs.declared.Step.TheVariants.{Input, Instance, Resolve, Merge, Para, Flip}
+use Rattle.sc_term.specs.declared.symbol.Symbol.{Symbol}
+use Rattle.sc_reading.specs.declared.token.Token.{Token}
+use Rattle.sc_reading.specs.declared.token.Token.TheVariants.{Word, Punctuation}
+use Rattle.sc_reading.specs.declared.token.Sign.TheVariants.{Open, Close, Comma}
+use Rattle.sc_reading.specs.Reader.{Read, ◌>>=◌, the_sign, separated}
+use Rattle.sc_reading.specs.ClauseGrammar.{bracketed}
+use Rattle.sc_reading.proofs.Spelling.{Sides, Empty, Entry, tokens_of, AreNames}
+use Rattle.sc_reading.proofs.Taken.{Gives}
+use Rattle.sc_reading.proofs.Terms.{terms}
+use Rattle.sc_written.specs.ClauseText.{joined_by, in_brackets, term_text}
+use Rattle.sc_written.specs.ProofText.{words, side_word, step_words}
+use Rattle.sc_written.specs.TextWords.{text_variable, a_number}
+use Rattle.sc_written.specs.ProofGrammar.{text_terms, a_side, a_step}
+use Rattle.sc_written.specs.Printable.{is_name, AreNamed, IsPrintableTerm, IsShort, AreShort, IsPrintableStep}
+use Rattle.sc_written.proofs.WordTokens.{tokens_at, Breaks, past, space_token, open_token, close_token}
+use Rattle.sc_written.proofs.WordRows.{AreWords, word_tokens, words_end, words_spelt, path_tokens, path_end, path_spelt, fits}
+use Rattle.sc_written.proofs.LineText.{joined_by-append}
+use Rattle.sc_written.proofs.NumberTexts.{number_is_name}
+use Rattle.sc_written.proofs.NumberBack.{then_number, path_back, path-length, terms_back}
+use Rattle.sc_written.proofs.TermSpelling.{MayStand, TermsSpelt, row_spelt}
+
+-- words; words and terms in parentheses; words and a path
+pub data StepTree : Type 0 where
+  Plain : ℕ → List (List ℕ) → StepTree
+  WithTerms : ℕ → List (List ℕ) → ℕ → Sides → ℕ → StepTree
+  WithPath : ℕ → List (List ℕ) → ℕ → List ℕ → ℕ → StepTree
+
+abbrev pub bracket_tokens : ℕ → List Token → ℕ → List Token
+bracket_tokens o inside c = Punctuation o Open ∷ (inside ++ Punctuation c Close ∷ [])
+
+abbrev pub step_tokens : StepTree → List Token
+step_tokens (Plain at ws) = word_tokens at ws
+step_tokens (WithTerms at ws o f c) = word_tokens at ws ++ bracket_tokens o (tokens_of f) c
+step_tokens (WithPath at ws o path c) = word_tokens at ws ++ bracket_tokens o (path_tokens (o + 1) path) c
+
+pub record StepSpelt (symbols : List Symbol) (step : Step) (at : ℕ) (rest : List ℕ) : Type 0 where
+  pub tree : StepTree
+  pub next : ℕ
+  pub tokens : tokens_at at (words (step_words symbols step) ++ rest) ≡ step_tokens tree ++ tokens_at next rest
+  pub read : (left : List Token) → Gives (a_step symbols (step_tokens tree ++ left)) step left
+
+-- ---- words alone
+
+abbrev place : ℕ → List ℕ → ℕ
+place at w = past w at + 1
+
+named : (n : ℕ) → IsShort n → is_name (decimal n) ≡ true
+named n h = number_is_name n (fits n h)
+
+input_spelt : (symbols : List Symbol) (k at : ℕ) (rest : List ℕ) → IsShort k → Breaks rest → StepSpelt symbols (Input k) at rest
+input_spelt symbols k at rest h breaks =
+    let ws = codes "input" ∷ decimal k ∷ [] in
+    record {
+      tree = Plain at (codes "input" ∷ decimal k ∷ []);
+      next = words_end at ws;
+      tokens = words_spelt at (codes "input") (decimal k ∷ []) rest (refl, (named k h, tt)) breaks;
+      read = λ left. then_number (λ k. Ok (Input k.0, k.1)) (place at (codes "input")) k left (fits k h);
+    }
+
+-- a line and a literal
+two_back : (step : ℕ → ℕ → Step) (p q j a : ℕ) (left : List Token) → IsShort j → IsShort a
+    → Gives (a_number (Word p (decimal j) ∷ Word q (decimal a) ∷ left) >>= λ j. a_number j.1 >>= λ a. Ok (step j.0 a.0, a.1)) (step j a) left
+two_back step p q j a left hj ha =
+    then_number (λ j. a_number j.1 >>= λ a. Ok (step j.0 a.0, a.1)) p j (Word q (decimal a) ∷ left) (fits j hj)
+    ∙ then_number (λ a. Ok (step j a.0, a.1)) q a left (fits a ha)
+
+merge_spelt : (symbols : List Symbol) (j a at : ℕ) (rest : List ℕ) → AreShort (j ∷ a ∷ []) → Breaks rest → StepSpelt symbols (Merge j a) at rest
+merge_spelt symbols j a at rest h breaks =
+    let ws = codes "merge" ∷ decimal j ∷ decimal a ∷ [] in
+    let p = place at (codes "merge") in
+    record {
+      tree = Plain at (codes "merge" ∷ decimal j ∷ decimal a ∷ []);
+      next = words_end at ws;
+      tokens = words_spelt at (codes "merge") (decimal j ∷ decimal a ∷ []) rest (refl, (named j h.0, (named a h.1.0, tt))) breaks;
+      read = λ left. two_back (λ j a. Merge j a) p (place p (decimal j)) j a left h.0 h.1.0;
+    }
+
+flip_spelt : (symbols : List Symbol) (j a at : ℕ) (rest : List ℕ) → AreShort (j ∷ a ∷ []) → Breaks rest → StepSpelt symbols (Flip j a) at rest
+flip_spelt symbols j a at rest h breaks =
+    let ws = codes "flip" ∷ decimal j ∷ decimal a ∷ [] in
+    let p = place at (codes "flip") in
+    record {
+      tree = Plain at (codes "flip" ∷ decimal j ∷ decimal a ∷ []);
+      next = words_end at ws;
+      tokens = words_spelt at (codes "flip") (decimal j ∷ decimal a ∷ []) rest (refl, (named j h.0, (named a h.1.0, tt))) breaks;
+      read = λ left. two_back (λ j a. Flip j a) p (place p (decimal j)) j a left h.0 h.1.0;
+    }
+
+resolve_spelt : (symbols : List Symbol) (j a k b at : ℕ) (rest : List ℕ) → AreShort (j ∷ a ∷ k ∷ b ∷ []) → Breaks rest → StepSpelt symbols (Resolve j a k b) at rest
+resolve_spelt symbols j a k b at rest h breaks =
+    let ws = codes "resolve" ∷ decimal j ∷ decimal a ∷ decimal k ∷ decimal b ∷ [] in
+    let p = place at (codes "resolve") in
+    let q = place p (decimal j) in
+    let r = place q (decimal a) in
+    let s = place r (decimal k) in
+    record {
+      tree = Plain at (codes "resolve" ∷ decimal j ∷ decimal a ∷ decimal k ∷ decimal b ∷ []);
+      next = words_end at ws;
+      tokens =
+          words_spelt at (codes "resolve") (decimal j ∷ decimal a ∷ decimal k ∷ decimal b ∷ []) rest
+          (refl, (named j h.0, (named a h.1.0, (named k h.1.1.0, (named b h.1.1.1.0, tt))))) breaks;
+      read = λ left.
+          then_number (λ j. a_number j.1 >>= λ a. a_number a.1 >>= λ k. a_number k.1 >>= λ b. Ok (Resolve j.0 a.0 k.0 b.0, b.1)) p j (Word q (decimal a) ∷ Word r (decimal k) ∷ Word s (decimal b) ∷ left) (fits j h.0)
+          ∙ then_number (λ a. a_number a.1 >>= λ k. a_number k.1 >>= λ b. Ok (Resolve j a.0 k.0 b.0, b.1)) q a (Word r (decimal k) ∷ Word s (decimal b) ∷ left) (fits a h.1.0)
+          ∙ then_number (λ k. a_number k.1 >>= λ b. Ok (Resolve j a k.0 b.0, b.1)) r k (Word s (decimal b) ∷ left) (fits k h.1.1.0)
+          ∙ then_number (λ b. Ok (Resolve j a k b.0, b.1)) s b left (fits b h.1.1.1.0);
+    }
+
+-- ---- words and parentheses
+
+-- what stands within the parentheses is spelt by these tokens
+in_brackets_spelt : (at next : ℕ) (inside rest : List ℕ) (ts : List Token) → tokens_at (at + 1) (inside ++ (41 ∷ rest)) ≡ ts ++ tokens_at next (41 ∷ rest)
+    → tokens_at at ((codes "(" ++ inside ++ codes ")") ++ rest) ≡ bracket_tokens at ts next ++ tokens_at (next + 1) rest
+in_brackets_spelt at next inside rest ts e =
+    ap (λ (us : List ℕ). tokens_at at (40 ∷ us)) (append_assoc inside (codes ")") rest)
+    ∙ open_token at (inside ++ (41 ∷ rest))
+    ∙ ap (λ (us : List Token). Punctuation at Open ∷ us) (e ∙ ap (λ (us : List Token). ts ++ us) (close_token next rest) ∙ sym (append_assoc ts (Punctuation next Close ∷ []) (tokens_at (next + 1) rest)))
+
+-- words, and behind them something in parentheses
+words_and_brackets : (at : ℕ) (w : List ℕ) (ws : List (List ℕ)) (inside rest : List ℕ) (next : ℕ) (ts : List Token) → AreWords (w ∷ ws)
+    → tokens_at (words_end at (w ∷ ws) + 1 + 1) (inside ++ (41 ∷ rest)) ≡ ts ++ tokens_at next (41 ∷ rest)
+    → tokens_at at (words (w ∷ ws ++ (codes "(" ++ inside ++ codes ")") ∷ []) ++ rest)
+    ≡ (word_tokens at (w ∷ ws) ++ bracket_tokens (words_end at (w ∷ ws) + 1) ts next) ++ tokens_at (next + 1) rest
+words_and_brackets at w ws inside rest next ts h e =
+    let brackets = codes "(" ++ inside ++ codes ")" in
+    let front = words (w ∷ ws) in
+    let p = words_end at (w ∷ ws) in
+    let tail = tokens_at (next + 1) rest in
+    ap (λ (us : List ℕ). tokens_at at (us ++ rest)) (joined_by-append (codes " ") w ws brackets [])
+    ∙ ap (tokens_at at) (append_assoc front (32 ∷ brackets) rest)
+    ∙ words_spelt at w ws (32 ∷ (brackets ++ rest)) h refl
+    ∙ ap (λ (us : List Token). word_tokens at (w ∷ ws) ++ us) (space_token p (brackets ++ rest) ∙ in_brackets_spelt (p + 1) next inside rest ts e)
+    ∙ sym (append_assoc (word_tokens at (w ∷ ws)) (bracket_tokens (p + 1) ts next) tail)
+
+-- ---- terms
+
+all_stand : (symbols : List Symbol) (ts : List Term) → AllByRecursion (IsPrintableTerm symbols) ts → AllByRecursion (MayStand symbols) ts
+all_stand symbols [] h = tt
+all_stand symbols (t ∷ ts) h = let p = h.0 in (record { over = p.over; narrow = p.narrow }, all_stand symbols ts h.1)
+
+-- none or more terms, before a closing parenthesis
+record InsideSpelt (symbols : List Symbol) (ts : List Term) (at : ℕ) (rest : List ℕ) : Type 0 where
+  sides : Sides
+  next : ℕ
+  tokens : tokens_at at (joined_by (codes ",") (map (term_text symbols) ts) ++ (41 ∷ rest)) ≡ tokens_of sides ++ tokens_at next (41 ∷ rest)
+  names : AreNames sides
+  terms : terms text_variable symbols sides ≡ ts
+
+inside_spelt : (symbols : List Symbol) → AreNamed symbols → (ts : List Term) (at : ℕ) (rest : List ℕ) → AllByRecursion (MayStand symbols) ts → InsideSpelt symbols ts at rest
+inside_spelt symbols h [] at rest may = record { sides = Empty; next = at; tokens = refl; names = tt; terms = refl }
+inside_spelt symbols h (t ∷ ts) at rest may =
+    let m = row_spelt symbols h t ts at (41 ∷ rest) may refl in
+    record { sides = Entry m.head m.args m.comma m.others; next = m.next; tokens = m.tokens; names = m.names; terms = m.terms }
+
+after_terms : ℕ → Read (List Term) → Read Step
+after_terms j r = (r >>= λ value. the_sign Close value.1 >>= λ close. Ok (value.0, close.1)) >>= λ terms. Ok (Instance j terms.0, terms.1)
+
+instance_spelt : (symbols : List Symbol) → AreNamed symbols → (j : ℕ) (ts : List Term) (at : ℕ) (rest : List ℕ) → IsShort j → AllByRecursion (IsPrintableTerm symbols) ts → StepSpelt symbols (Instance j ts) at rest
+unfolding after_terms
+instance_spelt symbols h j ts at rest short may =
+    let p = place at (codes "instance") in
+    let o = past (decimal j) p + 1 in
+    let m = inside_spelt symbols h ts (o + 1) rest (all_stand symbols ts may) in
+    record {
+      tree = WithTerms at (codes "instance" ∷ decimal j ∷ []) o m.sides m.next;
+      next = m.next + 1;
+      tokens = words_and_brackets at (codes "instance") (decimal j ∷ []) (joined_by (codes ",") (map (term_text symbols) ts)) rest m.next (tokens_of m.sides) (refl, (named j short, tt)) m.tokens;
+      read = λ left.
+          let close = Punctuation m.next Close ∷ left in
+          then_number (λ j. bracketed (text_terms symbols) j.1 >>= λ terms. Ok (Instance j.0 terms.0, terms.1)) p j (bracket_tokens o (tokens_of m.sides) m.next ++ left) (fits j short)
+          ∙ ap (λ (us : List Token). after_terms j (text_terms symbols us)) (append_assoc (tokens_of m.sides) (Punctuation m.next Close ∷ []) left)
+          ∙ ap (after_terms j) (terms_back symbols m.sides ts m.next left m.names m.terms);
+    }
