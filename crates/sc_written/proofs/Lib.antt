@@ -13,3 +13,4 @@ pub mod LineText
 pub mod WordRows
 pub mod NumberBack
 pub mod StepSpelling
+pub mod LineSpelling

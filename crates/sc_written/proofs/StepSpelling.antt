@@ -181,3 +181,75 @@ instance_spelt symbols h j ts at rest short may =
           ∙ ap (λ (us : List Token). after_terms j (text_terms symbols us)) (append_assoc (tokens_of m.sides) (Punctuation m.next Close ∷ []) left)
           ∙ ap (after_terms j) (terms_back symbols m.sides ts m.next left m.names m.terms);
     }
+
+-- ---- paths
+
+side_is_name : (side : Side) → is_name (side_word side) ≡ true
+side_is_name Left = refl
+side_is_name Right = refl
+
+side_back : (side : Side) (at : ℕ) (ts : List Token) → Gives (a_side (Word at (side_word side) ∷ ts)) side ts
+side_back Left at ts = refl
+side_back Right at ts = refl
+
+after_side : ℕ → ℕ → Read Side → Read Step
+after_side j a r = r >>= λ side. a_number side.1 >>= λ k. a_number k.1 >>= λ b. bracketed (separated Comma a_number (length b.1)) b.1 >>= λ path. Ok (Para j a side.0 k.0 b.0 path.0, path.1)
+
+after_path : ℕ → ℕ → Side → ℕ → ℕ → Read (List ℕ) → Read Step
+after_path j a side k b r = (r >>= λ value. the_sign Close value.1 >>= λ close. Ok (value.0, close.1)) >>= λ path. Ok (Para j a side k b path.0, path.1)
+
+-- a path is read, whatever bound above the number of its tokens
+in_path_back : (j a : ℕ) (side : Side) (k b o n : ℕ) (ns : List ℕ) (c : ℕ) (left : List Token) → AreShort (n ∷ ns)
+    → Gives (after_path j a side k b (separated Comma a_number (length (bracket_tokens o (path_tokens (o + 1) (n ∷ ns)) c ++ left)) ((path_tokens (o + 1) (n ∷ ns) ++ Punctuation c Close ∷ []) ++ left))) (Para j a side k b (n ∷ ns)) left
+unfolding after_path
+in_path_back j a side k b o n ns c left h =
+    let path = path_tokens (o + 1) (n ∷ ns) in
+    let bound = length (bracket_tokens o path c ++ left) in
+    let one = length-append (path ++ Punctuation c Close ∷ []) left in
+    let two = length-append path (Punctuation c Close ∷ []) in
+    let some = path-length (o + 1) (n ∷ ns) in
+    ap (λ (us : List Token). after_path j a side k b (separated Comma a_number bound us)) (append_assoc path (Punctuation c Close ∷ []) left)
+    ∙ ap (after_path j a side k b) (path_back bound (o + 1) n ns c left (omega arith) h)
+
+para_spelt : (symbols : List Symbol) (j a : ℕ) (side : Side) (k b n : ℕ) (ns : List ℕ) (at : ℕ) (rest : List ℕ) → AreShort (j ∷ a ∷ k ∷ b ∷ []) → AreShort (n ∷ ns) → StepSpelt symbols (Para j a side k b (n ∷ ns)) at rest
+unfolding after_side after_path
+para_spelt symbols j a side k b n ns at rest h path =
+    let ws = decimal j ∷ decimal a ∷ side_word side ∷ decimal k ∷ decimal b ∷ [] in
+    let p = place at (codes "para") in
+    let q = place p (decimal j) in
+    let r = place q (decimal a) in
+    let s = place r (side_word side) in
+    let u = place s (decimal k) in
+    let o = words_end at (codes "para" ∷ ws) + 1 in
+    let c = path_end (o + 1) (n ∷ ns) in
+    record {
+      tree = WithPath at (codes "para" ∷ decimal j ∷ decimal a ∷ side_word side ∷ decimal k ∷ decimal b ∷ []) o (n ∷ ns) c;
+      next = c + 1;
+      tokens =
+          words_and_brackets at (codes "para") ws (joined_by (codes ",") (map decimal (n ∷ ns))) rest c (path_tokens (o + 1) (n ∷ ns))
+          (refl, (named j h.0, (named a h.1.0, (side_is_name side, (named k h.1.1.0, (named b h.1.1.1.0, tt))))))
+          (path_spelt (o + 1) n ns (41 ∷ rest) path refl);
+      read = λ left.
+          let brackets = bracket_tokens o (path_tokens (o + 1) (n ∷ ns)) c ++ left in
+          let behind_side = Word s (decimal k) ∷ Word u (decimal b) ∷ brackets in
+          then_number (λ j. a_number j.1 >>= λ a. after_side j.0 a.0 (a_side a.1)) p j (Word q (decimal a) ∷ Word r (side_word side) ∷ behind_side) (fits j h.0)
+          ∙ then_number (λ a. after_side j a.0 (a_side a.1)) q a (Word r (side_word side) ∷ behind_side) (fits a h.1.0)
+          ∙ ap (after_side j a) (side_back side r behind_side)
+          ∙ then_number (λ k. a_number k.1 >>= λ b. bracketed (separated Comma a_number (length b.1)) b.1 >>= λ path. Ok (Para j a side k.0 b.0 path.0, path.1)) s k (Word u (decimal b) ∷ brackets) (fits k h.1.1.0)
+          ∙ then_number (λ b. bracketed (separated Comma a_number (length b.1)) b.1 >>= λ path. Ok (Para j a side k b.0 path.0, path.1)) u b brackets (fits b h.1.1.1.0)
+          ∙ in_path_back j a side k b o n ns c left path;
+    }
+
+some_path : (symbols : List Symbol) (j a : ℕ) (side : Side) (k b : ℕ) (path : List ℕ) (at : ℕ) (rest : List ℕ) → AreShort (j ∷ a ∷ k ∷ b ∷ []) → AreShort path → path ≢ [] → StepSpelt symbols (Para j a side k b path) at rest
+some_path symbols j a side k b [] at rest h short some = absurd (some refl)
+some_path symbols j a side k b (n ∷ ns) at rest h short some = para_spelt symbols j a side k b n ns at rest h short
+
+-- ---- steps
+
+pub step_spelt : (symbols : List Symbol) → AreNamed symbols → (step : Step) (at : ℕ) (rest : List ℕ) → IsPrintableStep symbols step → Breaks rest → StepSpelt symbols step at rest
+step_spelt symbols h (Input k) at rest may breaks = input_spelt symbols k at rest may breaks
+step_spelt symbols h (Instance j terms) at rest may breaks = instance_spelt symbols h j terms at rest may.0 may.1
+step_spelt symbols h (Resolve j a k b) at rest may breaks = resolve_spelt symbols j a k b at rest may breaks
+step_spelt symbols h (Merge j a) at rest may breaks = merge_spelt symbols j a at rest may breaks
+step_spelt symbols h (Para j a side k b path) at rest may breaks = some_path symbols j a side k b path at rest may.0 may.1 may.2
+step_spelt symbols h (Flip j a) at rest may breaks = flip_spelt symbols j a at rest may breaks
