@@ -1,18 +1,18 @@
 -- The tokens of the text of a clause are those of a tree, which is read as that clause.
 use Rattle.std.proofs.Common.{◌≡◌, ◌∙◌, sym, ap, refl, ℕ, ◌+◌, ◌≤◌, true, List, [], ◌∷◌, ◌++◌, map, append_assoc, arith}
 use Rattle.std.specs.Prelude.{codes, flat_map}
-use Rattle.std.specs.List.{AllByRecursion, list_all}
+use Rattle.std.specs.List.{list_all}
 use Rattle.std.proofs.lemmas.List.{append-nil}
 use Rattle.sc_data.specs.declared.Literal.{Literal}
 use Rattle.sc_data.specs.declared.Clause.{Clause}
 use Rattle.sc_data.specs.Term.{largest}
-use Rattle.sc_data.specs.Clause.{literal_width, width}
+use Rattle.sc_data.specs.Clause.{literal_width}
 use Rattle.sc_term.specs.declared.symbol.Symbol.{Symbol}
 use Rattle.sc_reading.specs.declared.token.Token.{Token}
-use Rattle.sc_reading.specs.declared.token.Token.TheVariants.{Word, Punctuation}
+use Rattle.sc_reading.specs.declared.token.Token.TheVariants.{Punctuation}
 use Rattle.sc_reading.specs.declared.token.Sign.TheVariants.{Bar}
 use Rattle.sc_reading.specs.Numbering.{literal_of}
-use Rattle.sc_reading.specs.WellFormed.{IsOver, literal_is_over}
+use Rattle.sc_reading.specs.WellFormed.{literal_is_over}
 use Rattle.sc_reading.proofs.Booleans.{parts_hold}
 use Rattle.sc_reading.proofs.ClauseSpelling.{LiteralTree, ClauseTree, Falsum, Literals, literal_tokens, behind_bar, clause_tokens, clause_written, IsSpeltClause}
 use Rattle.sc_reading.proofs.DepthLaw.{largest-cons}

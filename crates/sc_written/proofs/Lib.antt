@@ -14,3 +14,4 @@ pub mod WordRows
 pub mod NumberBack
 pub mod StepSpelling
 pub mod LineSpelling
+pub mod ProofSpelling

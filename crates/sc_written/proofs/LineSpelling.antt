@@ -1,5 +1,5 @@
 -- The tokens of the text of a line are those of a tree, which is read as that line.
-use Rattle.std.proofs.Common.{◌≡◌, ◌∙◌, sym, ap, refl, ℕ, ◌+◌, ◌<◌, ◌≤◌, ◌^◌, true, List, [], ◌∷◌, ◌++◌, map, append_assoc, Ok, arith}
+use Rattle.std.proofs.Common.{◌≡◌, ◌∙◌, sym, ap, refl, ℕ, ◌+◌, ◌<◌, ◌^◌, List, [], ◌∷◌, ◌++◌, append_assoc, Ok}
 use Rattle.std.specs.Prelude.{codes, decimal}
 use Rattle.sc_data.specs.declared.Clause.{Clause}
 use Rattle.sc_data.specs.declared.Step.{Step}
@@ -9,7 +9,7 @@ use Rattle.sc_reading.specs.declared.token.Token.{Token}
 use Rattle.sc_reading.specs.declared.token.Token.TheVariants.{Word, Punctuation}
 use Rattle.sc_reading.specs.declared.token.Sign.TheVariants.{Stop, Colon}
 use Rattle.sc_reading.specs.Reader.{Read, ◌>>=◌, the_sign}
-use Rattle.sc_reading.proofs.ClauseSpelling.{ClauseTree, clause_tokens, clause_written, IsSpeltClause}
+use Rattle.sc_reading.proofs.ClauseSpelling.{ClauseTree, clause_tokens}
 use Rattle.sc_reading.proofs.Taken.{Gives}
 use Rattle.sc_written.specs.ClauseText.{clause_text}
 use Rattle.sc_written.specs.ProofText.{words, step_words, line_text}
@@ -20,9 +20,9 @@ use Rattle.sc_written.proofs.WordTokens.{tokens_at, past, word_token, space_toke
 use Rattle.sc_written.proofs.LineText.{line_pieces}
 use Rattle.sc_written.proofs.NumberTexts.{number_is_name}
 use Rattle.sc_written.proofs.NumberBack.{the_number_back}
-use Rattle.sc_written.proofs.ClauseSpelling.{ClauseSpelt, clause_spelt}
+use Rattle.sc_written.proofs.ClauseSpelling.{clause_spelt}
 use Rattle.sc_written.proofs.ClauseBack.{text_clause_back}
-use Rattle.sc_written.proofs.StepSpelling.{StepTree, step_tokens, StepSpelt, step_spelt}
+use Rattle.sc_written.proofs.StepSpelling.{StepTree, step_tokens, step_spelt}
 
 -- number, step, colon, clause, full stop
 pub record LineTree : Type 0 where
@@ -36,11 +36,12 @@ pub record LineTree : Type 0 where
 abbrev pub line_tokens : LineTree → List Token
 line_tokens l = Word l.at (decimal l.number) ∷ (step_tokens l.step ++ (Punctuation l.colon Colon ∷ (clause_tokens l.clause ++ Punctuation l.stop Stop ∷ [])))
 
-pub record LineSpelt (symbols : List Symbol) (number : ℕ) (line : Line) (at : ℕ) (rest : List ℕ) : Type 0 where
+pub record LineSpelt (symbols : List Symbol) (n : ℕ) (line : Line) (at : ℕ) (rest : List ℕ) : Type 0 where
   pub tree : LineTree
   pub next : ℕ
-  pub tokens : tokens_at at (line_text symbols number line ++ rest) ≡ line_tokens tree ++ tokens_at next rest
-  pub read : (left : List Token) → Gives (a_line symbols number (line_tokens tree ++ left)) line left
+  pub number : tree.number ≡ n
+  pub tokens : tokens_at at (line_text symbols n line ++ rest) ≡ line_tokens tree ++ tokens_at next rest
+  pub read : (left : List Token) → Gives (a_line symbols n (line_tokens tree ++ left)) line left
 
 -- the pieces of a line, from its text on
 split : (n s c rest : List ℕ) → (n ++ codes " " ++ s ++ codes " : " ++ c ++ codes ".\n") ++ rest ≡ n ++ (32 ∷ (s ++ (32 ∷ 58 ∷ 32 ∷ (c ++ (46 ∷ 10 ∷ rest)))))
@@ -86,6 +87,7 @@ line_spelt symbols h number line at rest fits may =
     record {
       tree = record { at = at; number = number; step = s.tree; colon = s.next + 1; clause = c.tree; stop = c.next };
       next = c.next + 1 + 1;
+      number = refl;
       tokens =
           ap (λ (us : List ℕ). tokens_at at (us ++ rest)) (line_pieces symbols number line)
           ∙ ap (tokens_at at) (split n step_text text rest)

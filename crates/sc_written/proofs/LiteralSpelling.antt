@@ -1,6 +1,6 @@
 -- The tokens of the text of a literal are those of a tree, which is read as that literal.
-use Rattle.std.proofs.Common.{◌≡◌, ◌≢◌, ◌∙◌, sym, ap, subst, refl, ℕ, ◌+◌, ◌≤◌, Bool, true, false, List, [], ◌∷◌, ◌++◌, map, length, append_assoc, Option, Some, None, arith, not}
-use Rattle.std.specs.Prelude.{◌&&◌, ◌==◌, codes, slice_get, if◌then◌else◌}
+use Rattle.std.proofs.Common.{◌≡◌, ◌≢◌, ◌∙◌, sym, ap, subst, refl, ℕ, ◌+◌, ◌≤◌, Bool, true, false, List, [], ◌∷◌, ◌++◌, map, length, append_assoc, Some, arith}
+use Rattle.std.specs.Prelude.{◌==◌, codes, if◌then◌else◌}
 use Rattle.std.specs.List.{AllByRecursion, list_all}
 use Rattle.std.proofs.lemmas.Bool.{eqb-true, eqb-false}
 use Rattle.std.proofs.lemmas.List.{append-nil}
@@ -13,20 +13,20 @@ use Rattle.sc_term.specs.declared.symbol.Role.TheVariants.{Predicate}
 use Rattle.sc_term.specs.declared.symbol.Symbol.{Symbol}
 use Rattle.sc_term.specs.Symbol.{equality}
 use Rattle.sc_reading.specs.declared.token.Token.{Token}
-use Rattle.sc_reading.specs.declared.token.Token.TheVariants.{Word, Punctuation}
-use Rattle.sc_reading.specs.declared.token.Sign.TheVariants.{Minus, Equal, Unequal}
+use Rattle.sc_reading.specs.declared.token.Token.TheVariants.{Punctuation}
+use Rattle.sc_reading.specs.declared.token.Sign.TheVariants.{Minus}
 use Rattle.sc_reading.specs.Numbering.{symbol_number, literal_of}
 use Rattle.sc_reading.specs.WellFormed.{is_used_as, term_is_over, literal_is_over}
 use Rattle.sc_reading.proofs.Booleans.{parts_hold}
 use Rattle.sc_reading.proofs.Spelling.{side_tokens, count}
 use Rattle.sc_reading.proofs.ClauseSpelling.{Equated, Plain, Equation, Bare, Negative, LiteralTree, equal_sign, atom_tokens, literal_tokens, literal_written, IsSpelt}
 use Rattle.sc_reading.proofs.ClauseParts.{literal-args}
-use Rattle.sc_written.specs.ClauseText.{joined_by, name_of, applied, term_text, equation_text, atom_text, literal_text}
+use Rattle.sc_written.specs.ClauseText.{name_of, applied, term_text, equation_text, atom_text, literal_text}
 use Rattle.sc_written.specs.TextWords.{text_variable}
 use Rattle.sc_written.specs.Printable.{is_name, AreNamed}
 use Rattle.sc_written.proofs.WordTokens.{tokens_at, Breaks, equal_token, unequal_token, minus_token}
 use Rattle.sc_written.proofs.SymbolTexts.{SymbolIs, symbol_is, name_is, symbol_back, named_at}
-use Rattle.sc_written.proofs.TermSpelling.{TermSpelt, ApplicationSpelt, MayStand, term_spelt, atom_spelt, application_count, all_may_stand}
+use Rattle.sc_written.proofs.TermSpelling.{ApplicationSpelt, MayStand, term_spelt, atom_spelt, application_count, all_may_stand}
 
 -- the tree of a literal's text, which stands before the rest of a text
 pub record LiteralSpelt (symbols : List Symbol) (l : Literal) (at : ℕ) (rest : List ℕ) : Type 0 where

@@ -1,7 +1,6 @@
 -- Numbers, paths and terms are read back from their tokens.
-use Rattle.std.proofs.Common.{◌≡◌, ◌∙◌, sym, ap, refl, ℕ, zero, suc, ◌+◌, ◌<◌, ◌≤◌, ◌^◌, Bool, true, false, List, [], ◌∷◌, ◌++◌, length, map, append_assoc, Ok, arith}
+use Rattle.std.proofs.Common.{◌≡◌, ◌∙◌, sym, ap, refl, ℕ, zero, suc, ◌+◌, ◌<◌, ◌≤◌, ◌^◌, Bool, true, false, List, [], ◌∷◌, ◌++◌, length, append_assoc, Ok, arith}
 use Rattle.std.specs.Prelude.{◌&&◌, ◌==◌, decimal, flat_map}
-use Rattle.std.specs.List.{list_all}
 use Rattle.std.specs.Str.Parse.{digits_value}
 use Rattle.std.proofs.lemmas.Bool.{eq-eqb}
 use Rattle.std.proofs.lemmas.List.{append-nil, length-append}
@@ -11,12 +10,11 @@ use Rattle.sc_reading.specs.declared.token.Token.{Token}
 use Rattle.sc_reading.specs.declared.token.Token.TheVariants.{Word, Punctuation}
 use Rattle.sc_reading.specs.declared.token.Sign.TheVariants.{Close, Comma}
 use Rattle.sc_reading.specs.Token.{is_sign}
-use Rattle.sc_reading.specs.Tokens.{is_digit}
 use Rattle.sc_reading.specs.Reader.{Read, ◌>>=◌, unexpected, next_is, the_sign, separated}
 use Rattle.sc_reading.specs.Syntax.{Side}
 use Rattle.sc_reading.specs.ClauseGrammar.{side}
 use Rattle.sc_reading.specs.Numbering.{terms_of}
-use Rattle.sc_reading.proofs.Spelling.{Head, Sides, Empty, Entry, in_brackets, behind_comma, tokens_of, side_tokens, occurrence, occurrences, side_of, IsName, AreNames}
+use Rattle.sc_reading.proofs.Spelling.{Head, Sides, Empty, Entry, in_brackets, tokens_of, occurrence, occurrences, side_of, AreNames}
 use Rattle.sc_reading.proofs.SidesBack.{each_side, side_back}
 use Rattle.sc_reading.proofs.Taken.{Gives}
 use Rattle.sc_reading.proofs.Terms.{terms, terms_of-alone}

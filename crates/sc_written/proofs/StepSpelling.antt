@@ -1,5 +1,5 @@
 -- The tokens of the text of a step are those of a tree, which is read as that step.
-use Rattle.std.proofs.Common.{◌≡◌, ◌≢◌, ◌∙◌, sym, ap, refl, ℕ, ◌+◌, ◌<◌, ◌≤◌, ◌^◌, true, List, [], ◌∷◌, ◌++◌, length, map, append_assoc, Ok, arith}
+use Rattle.std.proofs.Common.{◌≡◌, ◌≢◌, ◌∙◌, sym, ap, refl, ℕ, ◌+◌, true, List, [], ◌∷◌, ◌++◌, length, map, append_assoc, Ok, arith}
 use Rattle.std.specs.Prelude.{codes, decimal}
 use Rattle.std.specs.List.{AllByRecursion}
 use Rattle.std.proofs.lemmas.List.{length-append}
@@ -17,7 +17,7 @@ use Rattle.sc_reading.specs.ClauseGrammar.{bracketed}
 use Rattle.sc_reading.proofs.Spelling.{Sides, Empty, Entry, tokens_of, AreNames}
 use Rattle.sc_reading.proofs.Taken.{Gives}
 use Rattle.sc_reading.proofs.Terms.{terms}
-use Rattle.sc_written.specs.ClauseText.{joined_by, in_brackets, term_text}
+use Rattle.sc_written.specs.ClauseText.{joined_by, term_text}
 use Rattle.sc_written.specs.ProofText.{words, side_word, step_words}
 use Rattle.sc_written.specs.TextWords.{text_variable, a_number}
 use Rattle.sc_written.specs.ProofGrammar.{text_terms, a_side, a_step}
@@ -27,7 +27,7 @@ use Rattle.sc_written.proofs.WordRows.{AreWords, word_tokens, words_end, words_s
 use Rattle.sc_written.proofs.LineText.{joined_by-append}
 use Rattle.sc_written.proofs.NumberTexts.{number_is_name}
 use Rattle.sc_written.proofs.NumberBack.{then_number, path_back, path-length, terms_back}
-use Rattle.sc_written.proofs.TermSpelling.{MayStand, TermsSpelt, row_spelt}
+use Rattle.sc_written.proofs.TermSpelling.{MayStand, row_spelt}
 
 -- words; words and terms in parentheses; words and a path
 pub data StepTree : Type 0 where

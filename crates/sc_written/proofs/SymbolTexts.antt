@@ -1,20 +1,19 @@
 -- The symbols of terms and atoms have names, and are found again by them.
 use Rattle.std.proofs.Common.{◌≡◌, ◌≢◌, ◌∙◌, sym, ap, subst, refl, ℕ, zero, suc, ◌+◌, ◌<◌, Bool, true, false, List, [], ◌∷◌, length, drop, cond, Option, Some, None, arith, not}
-use Rattle.std.specs.Prelude.{◌&&◌, ◌==◌, slice_get, unwrap_or, position, nat_lt}
+use Rattle.std.specs.Prelude.{◌&&◌, ◌==◌, slice_get, unwrap_or, nat_lt}
 use Rattle.std.specs.List.{AllByRecursion, IsDistinct, position_or_len}
-use Rattle.std.proofs.lemmas.Bool.{eqb-true, eq-eqb}
+use Rattle.std.proofs.lemmas.Bool.{eqb-true}
 use Rattle.sc_data.specs.declared.SymId.{SymId}
 use Rattle.sc_term.specs.declared.symbol.Role.{Role}
 use Rattle.sc_term.specs.declared.symbol.Role.TheVariants.{Function, Predicate}
 use Rattle.sc_term.specs.declared.symbol.Symbol.{Symbol}
 use Rattle.sc_term.specs.Symbol.{role_number, same_symbol, equality, IsSignature}
 use Rattle.sc_term.proofs.SymbolLaws.{equal_symbols, same_as_itself}
-use Rattle.sc_reading.specs.Numbering.{number_of, is_variable, symbol_number}
+use Rattle.sc_reading.specs.Numbering.{number_of, symbol_number}
 use Rattle.sc_reading.specs.WellFormed.{is_used_as}
 use Rattle.sc_reading.proofs.Booleans.{parts_hold}
 use Rattle.sc_reading.proofs.SymbolNumbers.{less}
 use Rattle.sc_written.specs.ClauseText.{name_of}
-use Rattle.sc_written.specs.TextWords.{text_variable}
 use Rattle.sc_written.specs.Printable.{IsNamed, AreNamed}
 
 -- ---- an element of a list
@@ -102,7 +101,7 @@ pub function_named : (symbols : List Symbol) (f : SymId) (name : List ℕ) (n : 
 function_named symbols f name n h e =
     let s : Symbol = record { name = name; arity = n; role = Function } in
     named_at symbols f s h e (λ zero_is.
-      let first : Some equality ≡ Some s = sym h.signature.first ∙ ap (slice_get symbols) (sym zero_is) ∙ e in
-      let same : equality ≡ s = cc in
-      let roles : role_number Predicate ≡ role_number Function = ap (λ (s : Symbol). role_number s.role) same in
-      absurd (omega arith))
+    let first : Some equality ≡ Some s = sym h.signature.first ∙ ap (slice_get symbols) (sym zero_is) ∙ e in
+    let same : equality ≡ s = cc in
+    let roles : role_number Predicate ≡ role_number Function = ap (λ (s : Symbol). role_number s.role) same in
+    absurd (omega arith))

@@ -1,8 +1,7 @@
 -- The tokens of the text of a term are those of a tree, which is read as that term.
-use Rattle.std.proofs.Common.{◌≡◌, ◌∙◌, sym, ap, refl, ℕ, ◌+◌, ◌<◌, ◌≤◌, ◌^◌, max, Bool, true, false, List, [], ◌∷◌, ◌++◌, map, length, append_assoc, Option, Some, None, arith}
-use Rattle.std.specs.Prelude.{◌&&◌, ◌==◌, nat_le, codes, decimal, slice_get}
+use Rattle.std.proofs.Common.{◌≡◌, ◌∙◌, sym, ap, refl, ℕ, ◌+◌, ◌<◌, ◌≤◌, ◌^◌, Bool, true, List, [], ◌∷◌, ◌++◌, map, length, append_assoc, Option, Some, None, arith}
+use Rattle.std.specs.Prelude.{◌&&◌, codes, decimal}
 use Rattle.std.specs.List.{AllByRecursion, list_all}
-use Rattle.std.proofs.lemmas.Bool.{eqb-true}
 use Rattle.std.proofs.lemmas.List.{append-nil, length-map}
 use Rattle.sc_data.specs.declared.SymId.{SymId}
 use Rattle.sc_data.specs.declared.Term.{Term}
@@ -14,21 +13,19 @@ use Rattle.sc_term.specs.declared.symbol.Symbol.{Symbol}
 use Rattle.sc_reading.specs.declared.token.Token.{Token}
 use Rattle.sc_reading.specs.declared.token.Token.TheVariants.{Word, Punctuation}
 use Rattle.sc_reading.specs.declared.token.Sign.TheVariants.{Open, Close, Comma}
-use Rattle.sc_reading.specs.Tokens.{begins}
-use Rattle.sc_reading.specs.declared.written.Occurrence.{Occurrence}
-use Rattle.sc_reading.specs.Numbering.{is_variable, function_at, symbol_number}
+use Rattle.sc_reading.specs.Numbering.{function_at, symbol_number}
 use Rattle.sc_reading.specs.WellFormed.{is_used_as, over_step, term_is_over}
 use Rattle.sc_reading.proofs.Booleans.{parts_hold}
-use Rattle.sc_reading.proofs.Spelling.{Head, Sides, Empty, Entry, in_brackets, tokens_of, side_tokens, count, occurrence, occurrences, IsName, AreNames}
+use Rattle.sc_reading.proofs.Spelling.{Head, Sides, Empty, Entry, in_brackets, tokens_of, side_tokens, count, occurrence, IsName, AreNames}
 use Rattle.sc_reading.proofs.Terms.{term_from, terms, terms-length}
 use Rattle.sc_reading.proofs.DepthLaw.{largest-cons}
-use Rattle.sc_written.specs.ClauseText.{joined_by, name_of, applied, term_text}
+use Rattle.sc_written.specs.ClauseText.{joined_by, applied, term_text}
 use Rattle.sc_written.specs.TextWords.{text_variable}
-use Rattle.sc_written.specs.Printable.{is_name, IsNamed, AreNamed}
+use Rattle.sc_written.specs.Printable.{is_name, AreNamed}
 use Rattle.sc_written.proofs.TextLaws.{text-Var, text-App}
 use Rattle.sc_written.proofs.WordTokens.{tokens_at, Breaks, past, word_token, open_token, close_token, comma_token, name_is_not_falsum}
 use Rattle.sc_written.proofs.NumberTexts.{variable_is_name, variable_back, no_variable}
-use Rattle.sc_written.proofs.SymbolTexts.{SymbolIs, symbol_is, name_is, symbol_back, function_named}
+use Rattle.sc_written.proofs.SymbolTexts.{symbol_is, name_is, symbol_back, function_named}
 
 -- the tree of a term's text, which stands before the rest of a text
 pub record TermSpelt (symbols : List Symbol) (t : Term) (at : ℕ) (rest : List ℕ) : Type 0 where

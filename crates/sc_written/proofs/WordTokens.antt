@@ -8,13 +8,17 @@ use Rattle.sc_reading.specs.declared.token.Token.TheVariants.{Word, Punctuation,
 use Rattle.sc_reading.specs.declared.fault.InputKind.TheVariants.{Unsupported}
 use Rattle.sc_reading.specs.declared.token.Sign.TheVariants.{Open, Close, Comma, Stop, Bar, Minus, Equal, Unequal, Colon}
 use Rattle.sc_reading.specs.Token.{same_text}
-use Rattle.sc_reading.specs.Tokens.{is_white, is_word_byte, blanked, sign_of, single, with_word_byte, with_exclamation, begins, with_byte, tokens_from, with_dollars_refused}
+use Rattle.sc_reading.specs.Tokens.{is_white, is_word_byte, blanked, sign_of, single, with_word_byte, with_exclamation, begins, with_byte, tokens_from, with_dollars_refused, tokens_behind}
 use Rattle.sc_reading.proofs.Booleans.{both_hold, parts_hold}
 use Rattle.sc_written.specs.Printable.{is_name_byte, is_name}
 
 -- the tokens of the bytes, the first of which is this one of a text
 pub tokens_at : ℕ → List ℕ → List Token
 tokens_at at bytes = map with_dollars_refused (tokens_from at (blanked false bytes))
+
+pub from_start : (bytes : List ℕ) → tokens_behind 0 bytes ≡ tokens_at 0 bytes
+unfolding tokens_at
+from_start bytes = refl
 
 -- ---- signs and white space
 

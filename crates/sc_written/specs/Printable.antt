@@ -8,7 +8,6 @@ use Rattle.sc_data.specs.declared.Step.TheVariants.{Input, Instance, Resolve, Me
 use Rattle.sc_data.specs.declared.Line.{Line}
 use Rattle.sc_data.specs.Term.{term_weight, term_depth, term_width}
 use Rattle.sc_data.specs.Clause.{weight, depth, width}
-use Rattle.sc_term.specs.declared.symbol.Role.TheVariants.{Function}
 use Rattle.sc_term.specs.declared.symbol.Symbol.{Symbol}
 use Rattle.sc_term.specs.Symbol.{IsSignature, role_number}
 use Rattle.sc_reading.specs.Tokens.{is_word_byte}
