@@ -15,3 +15,5 @@ pub mod NumberBack
 pub mod StepSpelling
 pub mod LineSpelling
 pub mod ProofSpelling
+pub mod Walks
+pub mod EndedNames
