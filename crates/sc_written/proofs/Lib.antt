@@ -17,3 +17,4 @@ pub mod LineSpelling
 pub mod ProofSpelling
 pub mod Walks
 pub mod EndedNames
+pub mod NamesKnown
