@@ -5,6 +5,7 @@ pub mod ProofFaults
 pub mod WordTokens
 pub mod NumberTexts
 pub mod SymbolTexts
+pub mod KnownNames
 pub mod TermSpelling
 pub mod LiteralSpelling
 pub mod ClauseSpelling

@@ -16,6 +16,7 @@ use Rattle.sc_reading.proofs.Spelling.{Head, Sides, Empty, Entry, in_brackets, b
 use Rattle.sc_written.specs.TextWords.{is_unknown_term, is_unknown_atom, is_large_variable}
 use Rattle.sc_written.specs.TextPosition.{Formula, name_before, ended_name, in_term_place}
 use Rattle.sc_written.specs.TextLimits.{is_unknown}
+use Rattle.sc_written.proofs.KnownNames.{KnownTerm}
 use Rattle.sc_written.proofs.Walks.{Walk, walk_join}
 use Rattle.sc_written.proofs.EndedNames.{Ends, EndsNoName, side_ends}
 
@@ -31,10 +32,6 @@ told test is_term front t = option_and_then (λ o. when (test (in_term_place (so
 pub record NameClear (symbols : List Symbol) (is_term : Bool) (front : List Token) (t : Token) : Type 0 where
   pub known : option_and_then (λ o. when (is_unknown symbols (in_term_place (so_far is_term front) t) o) (Some o.at)) (ended_name front t) ≡ None
   pub small : option_and_then (λ o. when (in_term_place (so_far is_term front) t && is_large_variable o) (Some o.at)) (ended_name front t) ≡ None
-
-pub record KnownTerm (symbols : List Symbol) (o : Occurrence) : Type 0 where
-  pub known : is_unknown_term symbols o ≡ false
-  pub small : is_large_variable o ≡ false
 
 nothing_by : (test : Bool → Occurrence → Bool) (place b : Bool) (o : Option Occurrence) → o ≡ None
     → option_and_then (λ o. when (test place o) (Some o.at)) (elim b [ true ↦ None | false ↦ o ]) ≡ None

@@ -1,5 +1,5 @@
 -- The tokens of the text of a term are those of a tree, which is read as that term.
-use Rattle.std.proofs.Common.{◌≡◌, ◌∙◌, sym, ap, refl, ℕ, ◌+◌, ◌<◌, ◌≤◌, ◌^◌, Bool, true, List, [], ◌∷◌, ◌++◌, map, length, append_assoc, Option, Some, None, arith}
+use Rattle.std.proofs.Common.{◌≡◌, ◌∙◌, sym, ap, subst, refl, ℕ, ◌+◌, ◌<◌, ◌≤◌, ◌^◌, Bool, true, List, [], ◌∷◌, ◌++◌, map, length, append_assoc, Option, Some, None, arith}
 use Rattle.std.specs.Prelude.{◌&&◌, codes, decimal}
 use Rattle.std.specs.List.{AllByRecursion, list_all}
 use Rattle.std.proofs.lemmas.List.{append-nil, length-map}
@@ -16,7 +16,7 @@ use Rattle.sc_reading.specs.declared.token.Sign.TheVariants.{Open, Close, Comma}
 use Rattle.sc_reading.specs.Numbering.{function_at, symbol_number}
 use Rattle.sc_reading.specs.WellFormed.{is_used_as, over_step, term_is_over}
 use Rattle.sc_reading.proofs.Booleans.{parts_hold}
-use Rattle.sc_reading.proofs.Spelling.{Head, Sides, Empty, Entry, in_brackets, tokens_of, side_tokens, count, occurrence, IsName, AreNames}
+use Rattle.sc_reading.proofs.Spelling.{Head, Sides, Empty, Entry, in_brackets, tokens_of, side_tokens, count, occurrence, occurrences, side_of, IsName, AreNames}
 use Rattle.sc_reading.proofs.Terms.{term_from, terms, terms-length}
 use Rattle.sc_reading.proofs.DepthLaw.{largest-cons}
 use Rattle.sc_written.specs.ClauseText.{joined_by, applied, term_text}
@@ -25,6 +25,8 @@ use Rattle.sc_written.specs.Printable.{is_name, AreNamed}
 use Rattle.sc_written.proofs.TextLaws.{text-Var, text-App}
 use Rattle.sc_written.proofs.WordTokens.{tokens_at, Breaks, past, word_token, open_token, close_token, comma_token, name_is_not_falsum}
 use Rattle.sc_written.proofs.NumberTexts.{variable_is_name, variable_back, no_variable}
+use Rattle.sc_data.proofs.SubstitutionLaws.{all_join}
+use Rattle.sc_written.proofs.KnownNames.{KnownTerm, variable_known, symbol_known}
 use Rattle.sc_written.proofs.SymbolTexts.{symbol_is, name_is, symbol_back, function_named}
 
 -- the tree of a term's text, which stands before the rest of a text
@@ -36,6 +38,7 @@ pub record TermSpelt (symbols : List Symbol) (t : Term) (at : ℕ) (rest : List 
   pub term : term_from text_variable symbols (occurrence head args) (terms text_variable symbols args) ≡ t
   pub name : IsName head
   pub names : AreNames args
+  pub known : AllByRecursion (KnownTerm symbols) (side_of head args)
 
 -- the trees of terms with commas between them
 pub record TermsSpelt (symbols : List Symbol) (ts : List Term) (at : ℕ) (rest : List ℕ) : Type 0 where
@@ -47,6 +50,7 @@ pub record TermsSpelt (symbols : List Symbol) (ts : List Term) (at : ℕ) (rest 
   pub tokens : tokens_at at (joined_by (codes ",") (map (term_text symbols) ts) ++ rest) ≡ tokens_of (Entry head args comma others) ++ tokens_at next rest
   pub terms : terms text_variable symbols (Entry head args comma others) ≡ ts
   pub names : AreNames (Entry head args comma others)
+  pub known : AllByRecursion (KnownTerm symbols) (occurrences (Entry head args comma others))
 
 -- what is known of a term
 pub record MayStand (symbols : List Symbol) (t : Term) : Type 0 where
@@ -68,6 +72,7 @@ variable_spelt symbols n at rest h breaks =
       term = ap (λ (v : Option ℕ). elim v [ Some n ↦ Var n | None ↦ App (symbol_number symbols (function_at (record { at = at; name = w; arity = 0 })).symbol) [] ]) (variable_back at n fits);
       name = name_is_not_falsum w named;
       names = tt;
+      known = (variable_known symbols at n h, tt);
     }
 
 -- ---- terms in a row
@@ -83,6 +88,7 @@ last_spelt symbols t at rest s =
       tokens = s.tokens ∙ ap (λ (us : List Token). Word s.head.at s.head.text ∷ (us ++ tokens_at s.next rest)) (sym (append-nil (in_brackets s.head s.args (tokens_of s.args))));
       terms = ap (λ (t : Term). t ∷ []) s.term;
       names = (s.name, s.names, tt);
+      known = (s.known.0, all_join (KnownTerm symbols) (occurrences s.args) [] s.known.1 tt);
     }
 
 more_spelt : (symbols : List Symbol) (t u : Term) (us : List Term) (at : ℕ) (rest : List ℕ)
@@ -104,6 +110,7 @@ more_spelt symbols t u us at rest s m =
           ∙ ap (λ (ts : List Token). Word s.head.at s.head.text ∷ ts) (sym (append_assoc inside (Punctuation s.next Comma ∷ behind) (tokens_at m.next rest)));
       terms = (λ i. s.term i ∷ m.terms i);
       names = (s.name, s.names, m.names);
+      known = (s.known.0, all_join (KnownTerm symbols) (occurrences s.args) (occurrences (Entry m.head m.args m.comma m.others)) s.known.1 m.known);
     }
 
 abbrev IsSpelt : List Symbol → Term → Type 0
@@ -128,6 +135,7 @@ pub record ApplicationSpelt (symbols : List Symbol) (name : List ℕ) (ts : List
   pub terms : terms text_variable symbols args ≡ ts
   pub named : IsName head
   pub names : AreNames args
+  pub known : AllByRecursion (KnownTerm symbols) (occurrences args)
 
 name_spelt : (symbols : List Symbol) (name : List ℕ) (at : ℕ) (rest : List ℕ) → is_name name ≡ true → Breaks rest → ApplicationSpelt symbols name [] at rest
 name_spelt symbols name at rest named breaks =
@@ -140,6 +148,7 @@ name_spelt symbols name at rest named breaks =
       terms = refl;
       named = name_is_not_falsum name named;
       names = tt;
+      known = tt;
     }
 
 arguments_spelt : (symbols : List Symbol) (name : List ℕ) (t : Term) (ts : List Term) (at : ℕ) (rest : List ℕ) → is_name name ≡ true
@@ -164,6 +173,7 @@ arguments_spelt symbols w t ts at rest named spelt may =
       terms = m.terms;
       named = name_is_not_falsum w named;
       names = m.names;
+      known = m.known;
     }
 
 application_spelt : (symbols : List Symbol) (name : List ℕ) (ts : List Term) (at : ℕ) (rest : List ℕ) → is_name name ≡ true
@@ -207,6 +217,10 @@ symbol_spelt symbols f ts h spelt at rest may breaks =
           ∙ ap (λ (g : SymId). App g ts) (symbol_back symbols f symbol h.signature s.here);
       name = a.named;
       names = a.names;
+      known = (
+        subst (KnownTerm symbols) (λ i. record { at = a.head.at; name = sym a.text i; arity = sym many i }) (symbol_known symbols f.0 a.head.at n s.name h.signature s.here named),
+        a.known,
+      );
     }
 
 pub term_spelt : (symbols : List Symbol) → AreNamed symbols → (t : Term) (at : ℕ) (rest : List ℕ) → MayStand symbols t → Breaks rest → TermSpelt symbols t at rest
