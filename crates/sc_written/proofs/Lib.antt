@@ -19,3 +19,5 @@ pub mod ProofSpelling
 pub mod Walks
 pub mod EndedNames
 pub mod NamesKnown
+pub mod Prefixes
+pub mod CommasWithin
