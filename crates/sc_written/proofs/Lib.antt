@@ -21,3 +21,4 @@ pub mod EndedNames
 pub mod NamesKnown
 pub mod Prefixes
 pub mod CommasWithin
+pub mod TreeMeasures
