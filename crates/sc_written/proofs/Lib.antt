@@ -22,3 +22,4 @@ pub mod NamesKnown
 pub mod Prefixes
 pub mod CommasWithin
 pub mod TreeMeasures
+pub mod LastLiterals
