@@ -23,3 +23,4 @@ pub mod Prefixes
 pub mod CommasWithin
 pub mod TreeMeasures
 pub mod LastLiterals
+pub mod AtomMeasures

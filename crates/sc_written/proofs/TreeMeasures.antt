@@ -71,7 +71,7 @@ module _ (symbols : List Symbol) where
 
   -- ---- depth
 
-  term_deep : (h : Head) (args : Sides) → 1 + largest (map term_depth (read args)) ≤ term_depth (read_term h args)
+  pub term_deep : (h : Head) (args : Sides) → 1 + largest (map term_depth (read args)) ≤ term_depth (read_term h args)
   term_deep h args = by (text_variable (occurrence h args)) refl
     where
       by : (v : Option ℕ) → text_variable (occurrence h args) ≡ v → 1 + largest (map term_depth (read args)) ≤ term_depth (made h args v)
