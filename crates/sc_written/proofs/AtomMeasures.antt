@@ -26,6 +26,7 @@ use Rattle.sc_reading.proofs.DepthLaw.{largest-cons, depth_of}
 use Rattle.sc_written.specs.TextWords.{text_variable}
 use Rattle.sc_written.proofs.Prefixes.{Along, along_none}
 use Rattle.sc_written.proofs.LastLiterals.{HasNoBar, BeginsLiteral, IsAtomFront, BeginsAtom, bare, behind_minus, depth_more}
+use Rattle.sc_written.proofs.KnownTrees.{IsPlainWrapping}
 use Rattle.sc_written.proofs.TreeMeasures.{sides_heavy, term_deep, one_nests}
 
 -- ---- no `=` in a side
@@ -175,13 +176,6 @@ module _ (symbols : List Symbol) where
       let part = depth_more us more in
       let last = ap depth_of_atom (b.law us f) in
       omega arith
-
--- the literal has no parentheses round it
-abbrev pub IsPlainWrapping : Wrapping → Type 0
-IsPlainWrapping Bare = Unit {0}
-IsPlainWrapping (Negative at) = Unit {0}
-IsPlainWrapping (Brackets o c) = ⊥
-IsPlainWrapping (NegativeBrackets at o c) = ⊥
 
 module _ (symbols : List Symbol) where
   literal_along_by : (front : List Token) (w : Wrapping) (a : Atom) (stop : ℕ) → IsPlainWrapping w → BeginsLiteral front → 1 + depth_of text_variable symbols (sides_under a) ≤ 256

@@ -20,6 +20,7 @@ use Rattle.sc_written.specs.ClauseText.{joined_by, literal_text, clause_text}
 use Rattle.sc_written.specs.TextWords.{text_variable}
 use Rattle.sc_written.specs.Printable.{AreNamed, IsPrintableClause}
 use Rattle.sc_written.proofs.WordTokens.{tokens_at, Breaks, past, falsum_token, space_token, bar_token}
+use Rattle.sc_written.proofs.KnownTrees.{ClauseKnown}
 use Rattle.sc_written.proofs.LiteralSpelling.{LiteralSpelt, literal_spelt}
 
 -- the tree of a clause's text, which stands before the rest of a text
@@ -29,6 +30,7 @@ pub record ClauseSpelt (symbols : List Symbol) (ls : List Literal) (text : List 
   pub tokens : tokens_at at (text ++ rest) ≡ clause_tokens tree ++ tokens_at next rest
   pub spelt : IsSpeltClause tree
   pub literals : map (literal_of text_variable symbols) (clause_written tree) ≡ ls
+  pub known : ClauseKnown symbols tree
 
 abbrev literals_joined : List Symbol → List Literal → List ℕ
 literals_joined symbols ls = joined_by (codes " | ") (map (literal_text symbols) ls)
@@ -41,6 +43,7 @@ record LiteralsSpelt (symbols : List Symbol) (ls : List Literal) (at : ℕ) (res
   tokens : tokens_at at (literals_joined symbols ls ++ rest) ≡ clause_tokens (Literals first others) ++ tokens_at next rest
   spelt : IsSpeltClause (Literals first others)
   literals : map (literal_of text_variable symbols) (clause_written (Literals first others)) ≡ ls
+  known : ClauseKnown symbols (Literals first others)
 
 last_literal : (symbols : List Symbol) (l : Literal) (at : ℕ) (rest : List ℕ) → LiteralSpelt symbols l at rest → LiteralsSpelt symbols (l ∷ []) at rest
 last_literal symbols l at rest s =
@@ -51,6 +54,7 @@ last_literal symbols l at rest s =
       tokens = s.tokens ∙ ap (λ (us : List Token). us ++ tokens_at s.next rest) (sym (append-nil (literal_tokens s.tree)));
       spelt = (s.spelt, tt);
       literals = ap (λ (l : Literal). l ∷ []) s.literal;
+      known = (s.known, tt);
     }
 
 bar_tokens : (at : ℕ) (rest : List ℕ) → tokens_at at (codes " | " ++ rest) ≡ Punctuation (at + 1) Bar ∷ tokens_at (at + 1 + 1 + 1) rest
@@ -74,6 +78,7 @@ more_literals symbols l m ms at rest s r =
           ∙ sym (append_assoc (literal_tokens s.tree) behind tail);
       spelt = (s.spelt, r.spelt);
       literals = (λ i. s.literal i ∷ r.literals i);
+      known = (s.known, r.known);
     }
 
 literals_spelt : (symbols : List Symbol) → AreNamed symbols → (l : Literal) (ls : List Literal) (at : ℕ) (rest : List ℕ) → list_all (literal_is_over symbols) (l ∷ ls) ≡ true
@@ -90,7 +95,7 @@ literals_spelt symbols h l (m ∷ ms) at rest over narrow breaks =
 
 falsum_spelt : (symbols : List Symbol) (at : ℕ) (rest : List ℕ) → Breaks rest → ClauseSpelt symbols [] (codes "$F") at rest
 falsum_spelt symbols at rest breaks =
-    record { tree = Falsum at; next = past (codes "$F") at; tokens = falsum_token at rest breaks; spelt = tt; literals = refl }
+    record { tree = Falsum at; next = past (codes "$F") at; tokens = falsum_token at rest breaks; spelt = tt; literals = refl; known = tt }
 
 pub clause_spelt : (symbols : List Symbol) → AreNamed symbols → (c : Clause) (at : ℕ) (rest : List ℕ) → IsPrintableClause symbols c → Breaks rest → ClauseSpelt symbols c.literals (clause_text symbols c) at rest
 clause_spelt symbols h c at rest may breaks = by c.literals may.over may.narrow
@@ -99,4 +104,4 @@ clause_spelt symbols h c at rest may breaks = by c.literals may.over may.narrow
     by [] over narrow = falsum_spelt symbols at rest breaks
     by (l ∷ ls) over narrow =
         let r = literals_spelt symbols h l ls at rest over narrow breaks in
-        record { tree = Literals r.first r.others; next = r.next; tokens = r.tokens; spelt = r.spelt; literals = r.literals }
+        record { tree = Literals r.first r.others; next = r.next; tokens = r.tokens; spelt = r.spelt; literals = r.literals; known = r.known }

@@ -7,6 +7,7 @@ pub mod NumberTexts
 pub mod SymbolTexts
 pub mod KnownNames
 pub mod TermSpelling
+pub mod KnownTrees
 pub mod LiteralSpelling
 pub mod ClauseSpelling
 pub mod ClauseBack

@@ -18,11 +18,15 @@ use Rattle.sc_reading.specs.declared.token.Sign.TheVariants.{Minus}
 use Rattle.sc_reading.specs.Numbering.{symbol_number, literal_of}
 use Rattle.sc_reading.specs.WellFormed.{is_used_as, term_is_over, literal_is_over}
 use Rattle.sc_reading.proofs.Booleans.{parts_hold}
-use Rattle.sc_reading.proofs.Spelling.{side_tokens, count}
+use Rattle.sc_reading.proofs.Spelling.{side_tokens, count, occurrence}
 use Rattle.sc_reading.proofs.ClauseSpelling.{Equated, Plain, Equation, Bare, Negative, LiteralTree, equal_sign, atom_tokens, literal_tokens, literal_written, IsSpelt}
 use Rattle.sc_reading.proofs.ClauseParts.{literal-args}
 use Rattle.sc_written.specs.ClauseText.{name_of, applied, term_text, equation_text, atom_text, literal_text}
-use Rattle.sc_written.specs.TextWords.{text_variable}
+use Rattle.sc_reading.specs.declared.written.Occurrence.{Occurrence}
+use Rattle.sc_reading.proofs.ArityLaw.{SmallArity}
+use Rattle.sc_written.specs.TextWords.{text_variable, is_unknown_atom}
+use Rattle.sc_written.proofs.KnownNames.{atom_known, atom_small}
+use Rattle.sc_written.proofs.KnownTrees.{AtomKnown, LiteralKnown}
 use Rattle.sc_written.specs.Printable.{is_name, AreNamed}
 use Rattle.sc_written.proofs.WordTokens.{tokens_at, Breaks, equal_token, unequal_token, minus_token}
 use Rattle.sc_written.proofs.SymbolTexts.{SymbolIs, symbol_is, name_is, symbol_back, named_at}
@@ -35,6 +39,7 @@ pub record LiteralSpelt (symbols : List Symbol) (l : Literal) (at : ℕ) (rest :
   pub tokens : tokens_at at (literal_text symbols l ++ rest) ≡ literal_tokens tree ++ tokens_at next rest
   pub spelt : IsSpelt tree
   pub literal : literal_of text_variable symbols (literal_written tree) ≡ l
+  pub known : LiteralKnown symbols tree
 
 -- ---- equations
 
@@ -84,6 +89,7 @@ equation_spelt symbols h positive s t at rest s_may t_may breaks =
           let args = literal-args text_variable symbols tree in
           (λ i. record { positive = positive; pred = pred i; args = args i })
           ∙ (λ i. record { positive = positive; pred = record { 0 = 0 }; args = a.term i ∷ b.term i ∷ [] });
+      known = (tt, (a.known, b.known));
     }
 
 -- ---- atoms
@@ -107,6 +113,15 @@ module _ (symbols : List Symbol) (h : AreNamed symbols) (p : SymId) (ts : List T
   name_text : applied (name_of symbols p) (map (term_text symbols) ts) ≡ applied s.name (map (term_text symbols) ts)
   name_text = ap (λ (name : List ℕ). applied name (map (term_text symbols) ts)) (name_is symbols p symbol s.here)
 
+  atom_is_known : (at : ℕ) (rest : List ℕ) (a : ApplicationSpelt symbols s.name ts at rest) → AtomKnown symbols (Plain a.head a.args)
+  atom_is_known at rest a =
+      let many = application_count symbols s.name ts at rest a in
+      let is : record { at = a.head.at; name = s.name; arity = length ts } ≡ occurrence a.head a.args = (λ i. record { at = a.head.at; name = sym a.text i; arity = sym many i }) in (
+        subst (λ (o : Occurrence). is_unknown_atom symbols o ≡ false) is (atom_known symbols p.0 a.head.at (length ts) s.name s.here),
+        subst SmallArity is (atom_small symbols p.0 a.head.at (length ts) s.name h.signature s.here),
+        a.known,
+      )
+
   positive_spelt : (at : ℕ) (rest : List ℕ) → (p.0 == 0) ≡ false → ApplicationSpelt symbols s.name ts at rest → LiteralSpelt symbols (record { positive = true; pred = p; args = ts }) at rest
   positive_spelt at rest e a =
       let tree : LiteralTree = record { wrapping = Bare; atom = Plain a.head a.args } in
@@ -122,6 +137,7 @@ module _ (symbols : List Symbol) (h : AreNamed symbols) (p : SymId) (ts : List T
             let pred = pred_back at rest a in
             let args = literal-args text_variable symbols tree ∙ a.terms in
             (λ i. record { positive = true; pred = pred i; args = args i });
+        known = (tt, atom_is_known at rest a);
       }
 
   negative_spelt : (at : ℕ) (rest : List ℕ) → (p.0 == 0) ≡ false → ApplicationSpelt symbols s.name ts (at + 1) rest → LiteralSpelt symbols (record { positive = false; pred = p; args = ts }) at rest
@@ -140,6 +156,7 @@ module _ (symbols : List Symbol) (h : AreNamed symbols) (p : SymId) (ts : List T
             let pred = pred_back (at + 1) rest a in
             let args = literal-args text_variable symbols tree ∙ a.terms in
             (λ i. record { positive = false; pred = pred i; args = args i });
+        known = (tt, atom_is_known (at + 1) rest a);
       }
 
   plain_spelt : (positive : Bool) (at : ℕ) (rest : List ℕ) → (p.0 == 0) ≡ false → is_name s.name ≡ true → AllByRecursion (MayStand symbols) ts → Breaks rest
