@@ -25,3 +25,4 @@ pub mod CommasWithin
 pub mod TreeMeasures
 pub mod LastLiterals
 pub mod AtomMeasures
+pub mod LiteralClear
