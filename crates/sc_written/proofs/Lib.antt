@@ -26,3 +26,4 @@ pub mod TreeMeasures
 pub mod LastLiterals
 pub mod AtomMeasures
 pub mod LiteralClear
+pub mod ClauseClear

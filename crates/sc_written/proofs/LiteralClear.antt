@@ -56,7 +56,7 @@ nonempty : (ns : List ℕ) → 1 ≤ length ns → is_nonempty ns ≡ true
 nonempty [] h = absurd (omega arith)
 nonempty (n ∷ ns) h = refl
 
-small : (symbols : List Symbol) (os : List Occurrence) → AllByRecursion (KnownTerm symbols) os → AllByRecursion SmallArity os
+pub small : (symbols : List Symbol) (os : List Occurrence) → AllByRecursion (KnownTerm symbols) os → AllByRecursion SmallArity os
 small symbols [] h = tt
 small symbols (o ∷ os) h = let k = h.0 in (k.arity, small symbols os h.1)
 
