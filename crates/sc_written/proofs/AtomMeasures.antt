@@ -31,7 +31,7 @@ use Rattle.sc_written.proofs.TreeMeasures.{sides_heavy, term_deep, one_nests}
 
 -- ---- no `=` in a side
 
-no_equality_join : (xs ys : List Token) → list_any is_equality xs ≡ false → list_any is_equality ys ≡ false → list_any is_equality (xs ++ ys) ≡ false
+pub no_equality_join : (xs ys : List Token) → list_any is_equality xs ≡ false → list_any is_equality ys ≡ false → list_any is_equality (xs ++ ys) ≡ false
 no_equality_join xs ys h k = list_any-append is_equality xs ys ∙ (λ i. h i || k i)
 
 brackets_no_equality : (h : Head) (args : Sides) → list_any is_equality (tokens_of args) ≡ false → list_any is_equality (in_brackets h args (tokens_of args)) ≡ false

@@ -58,7 +58,7 @@ Counts ts k = (a : ℕ) (zs : List Token) → applied_name 0 a (reverse ts ++ zs
 none_more : (a : ℕ) (zs : List Token) → applied_name 0 a zs ≡ applied_name 0 (a + 0) zs
 none_more a zs = let e : a ≡ a + 0 = omega arith in ap (λ (n : ℕ). applied_name 0 n zs) e
 
-counts_inside : (h : Head) (args : Sides) → Counts (in_brackets h args (tokens_of args)) 0
+pub counts_inside : (h : Head) (args : Sides) → Counts (in_brackets h args (tokens_of args)) 0
 counts_inside h Empty a zs = none_more a zs
 counts_inside h (Entry g args comma others) a zs =
     let ts = tokens_of (Entry g args comma others) in

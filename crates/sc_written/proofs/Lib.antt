@@ -27,3 +27,4 @@ pub mod LastLiterals
 pub mod AtomMeasures
 pub mod LiteralClear
 pub mod ClauseClear
+pub mod TermClear

@@ -49,7 +49,7 @@ module _ (symbols : List Symbol) where
 
   -- ---- weight
 
-  term_heavy : (h : Head) (args : Sides) → 1 + sum (map term_weight (read args)) ≤ term_weight (read_term h args)
+  pub term_heavy : (h : Head) (args : Sides) → 1 + sum (map term_weight (read args)) ≤ term_weight (read_term h args)
   term_heavy h args = by (text_variable (occurrence h args)) refl
     where
       by : (v : Option ℕ) → text_variable (occurrence h args) ≡ v → 1 + sum (map term_weight (read args)) ≤ term_weight (made h args v)
