@@ -1,6 +1,11 @@
 -- The tokens of the text of a line are those of a tree, which is read as that line.
-use Rattle.std.proofs.Common.{◌≡◌, ◌∙◌, sym, ap, refl, ℕ, ◌+◌, ◌<◌, ◌^◌, List, [], ◌∷◌, ◌++◌, append_assoc, Ok}
+use Rattle.std.proofs.Common.{◌≡◌, ◌∙◌, sym, ap, subst, refl, ℕ, ◌+◌, ◌<◌, ◌≤◌, ◌^◌, sum, List, [], ◌∷◌, ◌++◌, map, append_assoc, Ok, arith}
 use Rattle.std.specs.Prelude.{codes, decimal}
+use Rattle.sc_data.specs.declared.Literal.{Literal}
+use Rattle.sc_data.specs.Term.{largest}
+use Rattle.sc_data.specs.Clause.{literal_weight, literal_depth}
+use Rattle.sc_reading.specs.Numbering.{literal_of}
+use Rattle.sc_written.proofs.KnownTrees.{ClauseKnown}
 use Rattle.sc_data.specs.declared.Clause.{Clause}
 use Rattle.sc_data.specs.declared.Step.{Step}
 use Rattle.sc_data.specs.declared.Line.{Line}
@@ -9,20 +14,20 @@ use Rattle.sc_reading.specs.declared.token.Token.{Token}
 use Rattle.sc_reading.specs.declared.token.Token.TheVariants.{Word, Punctuation}
 use Rattle.sc_reading.specs.declared.token.Sign.TheVariants.{Stop, Colon}
 use Rattle.sc_reading.specs.Reader.{Read, ◌>>=◌, the_sign}
-use Rattle.sc_reading.proofs.ClauseSpelling.{ClauseTree, clause_tokens}
+use Rattle.sc_reading.proofs.ClauseSpelling.{ClauseTree, clause_tokens, clause_written, IsSpeltClause}
 use Rattle.sc_reading.proofs.Taken.{Gives}
 use Rattle.sc_written.specs.ClauseText.{clause_text}
 use Rattle.sc_written.specs.ProofText.{words, step_words, line_text}
-use Rattle.sc_written.specs.TextWords.{the_number}
+use Rattle.sc_written.specs.TextWords.{text_variable, the_number}
 use Rattle.sc_written.specs.ProofGrammar.{text_clause, a_step, a_line}
-use Rattle.sc_written.specs.Printable.{AreNamed, IsPrintableLine}
+use Rattle.sc_written.specs.Printable.{AreNamed, IsShort, IsPrintableLine}
 use Rattle.sc_written.proofs.WordTokens.{tokens_at, past, word_token, space_token, colon_token, stop_token, line_feed_token}
 use Rattle.sc_written.proofs.LineText.{line_pieces}
 use Rattle.sc_written.proofs.NumberTexts.{number_is_name}
 use Rattle.sc_written.proofs.NumberBack.{the_number_back}
 use Rattle.sc_written.proofs.ClauseSpelling.{clause_spelt}
 use Rattle.sc_written.proofs.ClauseBack.{text_clause_back}
-use Rattle.sc_written.proofs.StepSpelling.{StepTree, step_tokens, step_spelt}
+use Rattle.sc_written.proofs.StepSpelling.{StepTree, step_tokens, IsClearStep, StepSpelt, step_spelt}
 
 -- number, step, colon, clause, full stop
 pub record LineTree : Type 0 where
@@ -36,12 +41,22 @@ pub record LineTree : Type 0 where
 abbrev pub line_tokens : LineTree → List Token
 line_tokens l = Word l.at (decimal l.number) ∷ (step_tokens l.step ++ (Punctuation l.colon Colon ∷ (clause_tokens l.clause ++ Punctuation l.stop Stop ∷ [])))
 
+-- what keeps the tokens of a line within the limits
+pub record IsClearLine (symbols : List Symbol) (l : LineTree) : Type 0 where
+  pub number : IsShort l.number
+  pub step : IsClearStep symbols l.step
+  pub known : ClauseKnown symbols l.clause
+  pub spelt : IsSpeltClause l.clause
+  pub light : sum (map literal_weight (map (literal_of text_variable symbols) (clause_written l.clause))) ≤ 10000
+  pub shallow : largest (map literal_depth (map (literal_of text_variable symbols) (clause_written l.clause))) ≤ 256
+
 pub record LineSpelt (symbols : List Symbol) (n : ℕ) (line : Line) (at : ℕ) (rest : List ℕ) : Type 0 where
   pub tree : LineTree
   pub next : ℕ
   pub number : tree.number ≡ n
   pub tokens : tokens_at at (line_text symbols n line ++ rest) ≡ line_tokens tree ++ tokens_at next rest
   pub read : (left : List Token) → Gives (a_line symbols n (line_tokens tree ++ left)) line left
+  pub clear : IsClearLine symbols tree
 
 -- the pieces of a line, from its text on
 split : (n s c rest : List ℕ) → (n ++ codes " " ++ s ++ codes " : " ++ c ++ codes ".\n") ++ rest ≡ n ++ (32 ∷ (s ++ (32 ∷ 58 ∷ 32 ∷ (c ++ (46 ∷ 10 ∷ rest)))))
@@ -71,8 +86,10 @@ module _ (symbols : List Symbol) (line : Line) (tree : LineTree) where
       ∙ ap (after_step symbols) (step (Punctuation tree.colon Colon ∷ whole))
       ∙ ap (after_clause line.step) (clause left)
 
-pub line_spelt : (symbols : List Symbol) → AreNamed symbols → (number : ℕ) (line : Line) (at : ℕ) (rest : List ℕ) → number < 2 ^ 64 → IsPrintableLine symbols line → LineSpelt symbols number line at rest
-line_spelt symbols h number line at rest fits may =
+pub line_spelt : (symbols : List Symbol) → AreNamed symbols → (number : ℕ) (line : Line) (at : ℕ) (rest : List ℕ) → IsShort number → IsPrintableLine symbols line → LineSpelt symbols number line at rest
+line_spelt symbols h number line at rest short may =
+    let fits : number < 2 ^ 64 = omega arith in
+    let clause = may.clause in
     let n = decimal number in
     let step_text = words (step_words symbols line.step) in
     let text = clause_text symbols line.clause in
@@ -102,4 +119,12 @@ line_spelt symbols h number line at rest fits may =
           ∙ sym (append_assoc (clause_tokens c.tree) (Punctuation c.next Stop ∷ []) tail)))
           ∙ sym (append_assoc (step_tokens s.tree) (Punctuation (s.next + 1) Colon ∷ ended) tail));
       read = λ left. line_back symbols line tree left fits s.read (λ us. text_clause_back symbols c.tree line.clause.literals c.next us c.spelt c.literals);
+      clear = record {
+        number = short;
+        step = s.clear;
+        known = c.known;
+        spelt = c.spelt;
+        light = subst (λ (ls : List Literal). sum (map literal_weight ls) ≤ 10000) (sym c.literals) clause.light;
+        shallow = subst (λ (ls : List Literal). largest (map literal_depth ls) ≤ 256) (sym c.literals) clause.shallow;
+      };
     }

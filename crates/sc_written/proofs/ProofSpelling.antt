@@ -19,7 +19,7 @@ use Rattle.sc_written.specs.ProofGrammar.{a_line, lines_within, the_heading, pro
 use Rattle.sc_written.specs.Printable.{AreNamed, IsPrintableLine, IsPrintable}
 use Rattle.sc_written.proofs.WordTokens.{tokens_at, from_start, past, word_token, stop_token, line_feed_token, no_token}
 use Rattle.sc_written.proofs.NumberTexts.{all_digits}
-use Rattle.sc_written.proofs.LineSpelling.{LineTree, line_tokens, LineSpelt, line_spelt}
+use Rattle.sc_written.proofs.LineSpelling.{LineTree, line_tokens, IsClearLine, LineSpelt, line_spelt}
 
 -- ---- a number isn't the closing word
 
@@ -46,9 +46,10 @@ pub record LinesSpelt (symbols : List Symbol) (n : ℕ) (lines : List Line) (at 
   pub many : length lines ≤ length (flat_map line_tokens trees)
   pub read : (k end : ℕ) (left : List Token) → length lines + 1 ≤ k
       → Gives (lines_within k symbols n (flat_map line_tokens trees ++ Word end (codes "end_of_proof") ∷ left)) lines (Word end (codes "end_of_proof") ∷ left)
+  pub clear : AllByRecursion (IsClearLine symbols) trees
 
 no_lines : (symbols : List Symbol) (n at : ℕ) (rest : List ℕ) → LinesSpelt symbols n [] at rest
-no_lines symbols n at rest = record { trees = []; next = at; tokens = refl; many = omega arith; read = λ k end left le. by k end left le }
+no_lines symbols n at rest = record { trees = []; next = at; tokens = refl; many = omega arith; read = λ k end left le. by k end left le; clear = tt }
   where
     by : (k end : ℕ) (left : List Token) → 0 + 1 ≤ k → Gives (lines_within k symbols n (Word end (codes "end_of_proof") ∷ left)) [] (Word end (codes "end_of_proof") ∷ left)
     by zero end left le = absurd (omega arith)
@@ -75,6 +76,7 @@ more_lines symbols n line lines at rest fits s m =
           ∙ s.tokens ∙ ap (λ (us : List Token). line_tokens s.tree ++ us) m.tokens ∙ sym (append_assoc (line_tokens s.tree) others (tokens_at m.next rest));
       many = omega arith;
       read = λ k end left le. by k end left le;
+      clear = (s.clear, m.clear);
     }
   where
     by : (k end : ℕ) (left : List Token) → suc (length lines) + 1 ≤ k
@@ -93,7 +95,8 @@ pub lines_spelt : (symbols : List Symbol) → AreNamed symbols → (n : ℕ) (li
 lines_spelt symbols h n [] at rest few may = no_lines symbols n at rest
 lines_spelt symbols h n (line ∷ lines) at rest few may =
     let fits : n < 2 ^ 64 = omega arith in
-    let s = line_spelt symbols h n line at (lines_text symbols (n + 1) lines ++ rest) fits may.0 in
+    let short : n < 2 ^ 32 = omega arith in
+    let s = line_spelt symbols h n line at (lines_text symbols (n + 1) lines ++ rest) short may.0 in
     more_lines symbols n line lines at rest fits s (lines_spelt symbols h (n + 1) lines s.next rest (omega arith) may.1)
 
 -- ---- the section
@@ -106,6 +109,7 @@ pub record ProofSpelt (symbols : List Symbol) (lines : List Line) : Type 0 where
   pub end : ℕ
   pub tokens : tokens_behind 0 (proof_text symbols lines) ≡ section_tokens trees end
   pub read : Gives (alone (proof_section symbols (section_tokens trees end))) lines []
+  pub clear : AllByRecursion (IsClearLine symbols) trees
 
 begin_tokens : (rest : List ℕ) → tokens_at 0 (codes "proof.\n" ++ rest) ≡ heading_tokens 0 (codes "proof") ++ tokens_at 7 rest
 begin_tokens rest =
@@ -140,6 +144,7 @@ proof_spelt symbols lines may =
           ∙ begin_tokens (lines_text symbols 1 lines ++ codes "end_of_proof.\n")
           ∙ ap (λ (us : List Token). heading_tokens 0 (codes "proof") ++ us) (m.tokens ∙ ap (λ (us : List Token). inside ++ us) (end_tokens m.next));
       read = ap after_lines (m.read (length (inside ++ closing)) m.next (Punctuation (past (codes "end_of_proof") m.next) Stop ∷ []) (omega arith));
+      clear = m.clear;
     }
 
 -- the lines are read back, as far as the productions go

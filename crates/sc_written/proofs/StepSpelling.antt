@@ -1,9 +1,10 @@
 -- The tokens of the text of a step are those of a tree, which is read as that step.
-use Rattle.std.proofs.Common.{◌≡◌, ◌≢◌, ◌∙◌, sym, ap, refl, ℕ, ◌+◌, true, List, [], ◌∷◌, ◌++◌, length, map, append_assoc, Ok, arith}
-use Rattle.std.specs.Prelude.{codes, decimal}
-use Rattle.std.specs.List.{AllByRecursion}
+use Rattle.std.proofs.Common.{◌≡◌, ◌≢◌, ◌∙◌, sym, ap, subst, refl, ℕ, ◌+◌, ◌≤◌, Bool, true, false, List, [], ◌∷◌, ◌++◌, length, map, append_assoc, Ok, arith}
+use Rattle.std.specs.Prelude.{codes, decimal, ◌&&◌}
+use Rattle.std.specs.List.{AllByRecursion, list_all}
 use Rattle.std.proofs.lemmas.List.{length-append}
 use Rattle.sc_data.specs.declared.Term.{Term}
+use Rattle.sc_data.specs.Term.{term_weight, term_depth}
 use Rattle.sc_data.specs.declared.Side.{Side}
 use Rattle.sc_data.specs.declared.Side.TheVariants.{Left, Right}
 use Rattle.sc_data.specs.declared.Step.{Step}
@@ -12,14 +13,17 @@ use Rattle.sc_term.specs.declared.symbol.Symbol.{Symbol}
 use Rattle.sc_reading.specs.declared.token.Token.{Token}
 use Rattle.sc_reading.specs.declared.token.Token.TheVariants.{Word, Punctuation}
 use Rattle.sc_reading.specs.declared.token.Sign.TheVariants.{Open, Close, Comma}
+use Rattle.sc_reading.specs.Token.{same_text}
+use Rattle.sc_reading.specs.Tokens.{is_digit}
+use Rattle.sc_written.proofs.KnownNames.{KnownTerm, in_range}
 use Rattle.sc_reading.specs.Reader.{Read, ◌>>=◌, the_sign, separated}
 use Rattle.sc_reading.specs.ClauseGrammar.{bracketed}
-use Rattle.sc_reading.proofs.Spelling.{Sides, Empty, Entry, tokens_of, AreNames}
+use Rattle.sc_reading.proofs.Spelling.{Sides, Empty, Entry, tokens_of, occurrences, AreNames}
 use Rattle.sc_reading.proofs.Taken.{Gives}
 use Rattle.sc_reading.proofs.Terms.{terms}
 use Rattle.sc_written.specs.ClauseText.{joined_by, term_text}
 use Rattle.sc_written.specs.ProofText.{words, side_word, step_words}
-use Rattle.sc_written.specs.TextWords.{text_variable, a_number}
+use Rattle.sc_written.specs.TextWords.{is_longer_or_above, text_variable, a_number}
 use Rattle.sc_written.specs.ProofGrammar.{text_terms, a_side, a_step}
 use Rattle.sc_written.specs.Printable.{is_name, AreNamed, IsPrintableTerm, IsShort, AreShort, IsPrintableStep}
 use Rattle.sc_written.proofs.WordTokens.{tokens_at, Breaks, past, space_token, open_token, close_token}
@@ -43,16 +47,45 @@ step_tokens (Plain at ws) = word_tokens at ws
 step_tokens (WithTerms at ws o f c) = word_tokens at ws ++ bracket_tokens o (tokens_of f) c
 step_tokens (WithPath at ws o path c) = word_tokens at ws ++ bracket_tokens o (path_tokens (o + 1) path) c
 
+-- no number is out of range
+abbrev pub QuietWord : List ℕ → Type 0
+QuietWord w = (list_all is_digit w && is_longer_or_above 4294967295 w) ≡ false
+
+-- a step of another name than `instance`
+abbrev pub AreQuiet : List (List ℕ) → Type 0
+AreQuiet [] = ⊥
+AreQuiet (w ∷ ws) = (same_text (codes "instance") w ≡ false) × AllByRecursion QuietWord (w ∷ ws)
+
+abbrev pub IsLight : Term → Type 0
+IsLight t = (term_weight t ≤ 10000) × (term_depth t ≤ 256)
+
+abbrev pub AreInstanceWords : List (List ℕ) → Type 0
+AreInstanceWords ws = (j : ℕ) × (ws ≡ codes "instance" ∷ decimal j ∷ []) × IsShort j
+
+-- what keeps the tokens of a step within the limits
+abbrev pub IsClearStep : List Symbol → StepTree → Type 0
+IsClearStep symbols (Plain at ws) = AreQuiet ws
+IsClearStep symbols (WithTerms at ws o f c) = AreInstanceWords ws × AllByRecursion (KnownTerm symbols) (occurrences f) × AreNames f × AllByRecursion IsLight (terms text_variable symbols f)
+IsClearStep symbols (WithPath at ws o path c) = AreQuiet ws × AreShort path
+
 pub record StepSpelt (symbols : List Symbol) (step : Step) (at : ℕ) (rest : List ℕ) : Type 0 where
   pub tree : StepTree
   pub next : ℕ
   pub tokens : tokens_at at (words (step_words symbols step) ++ rest) ≡ step_tokens tree ++ tokens_at next rest
   pub read : (left : List Token) → Gives (a_step symbols (step_tokens tree ++ left)) step left
+  pub clear : IsClearStep symbols tree
 
 -- ---- words alone
 
 abbrev place : ℕ → List ℕ → ℕ
 place at w = past w at + 1
+
+and_false : (a b : Bool) → b ≡ false → (a && b) ≡ false
+and_false true b e = e
+and_false false b e = refl
+
+pub quiet : (n : ℕ) → IsShort n → QuietWord (decimal n)
+quiet n h = and_false (list_all is_digit (decimal n)) (is_longer_or_above 4294967295 (decimal n)) (in_range 4294967295 n (omega arith) h)
 
 named : (n : ℕ) → IsShort n → is_name (decimal n) ≡ true
 named n h = number_is_name n (fits n h)
@@ -65,6 +98,7 @@ input_spelt symbols k at rest h breaks =
       next = words_end at ws;
       tokens = words_spelt at (codes "input") (decimal k ∷ []) rest (refl, (named k h, tt)) breaks;
       read = λ left. then_number (λ k. Ok (Input k.0, k.1)) (place at (codes "input")) k left (fits k h);
+      clear = (refl, (refl, (quiet k h, tt)));
     }
 
 -- a line and a literal
@@ -83,6 +117,7 @@ merge_spelt symbols j a at rest h breaks =
       next = words_end at ws;
       tokens = words_spelt at (codes "merge") (decimal j ∷ decimal a ∷ []) rest (refl, (named j h.0, (named a h.1.0, tt))) breaks;
       read = λ left. two_back (λ j a. Merge j a) p (place p (decimal j)) j a left h.0 h.1.0;
+      clear = (refl, (refl, (quiet j h.0, (quiet a h.1.0, tt))));
     }
 
 flip_spelt : (symbols : List Symbol) (j a at : ℕ) (rest : List ℕ) → AreShort (j ∷ a ∷ []) → Breaks rest → StepSpelt symbols (Flip j a) at rest
@@ -94,6 +129,7 @@ flip_spelt symbols j a at rest h breaks =
       next = words_end at ws;
       tokens = words_spelt at (codes "flip") (decimal j ∷ decimal a ∷ []) rest (refl, (named j h.0, (named a h.1.0, tt))) breaks;
       read = λ left. two_back (λ j a. Flip j a) p (place p (decimal j)) j a left h.0 h.1.0;
+      clear = (refl, (refl, (quiet j h.0, (quiet a h.1.0, tt))));
     }
 
 resolve_spelt : (symbols : List Symbol) (j a k b at : ℕ) (rest : List ℕ) → AreShort (j ∷ a ∷ k ∷ b ∷ []) → Breaks rest → StepSpelt symbols (Resolve j a k b) at rest
@@ -114,6 +150,7 @@ resolve_spelt symbols j a k b at rest h breaks =
           ∙ then_number (λ a. a_number a.1 >>= λ k. a_number k.1 >>= λ b. Ok (Resolve j a.0 k.0 b.0, b.1)) q a (Word r (decimal k) ∷ Word s (decimal b) ∷ left) (fits a h.1.0)
           ∙ then_number (λ k. a_number k.1 >>= λ b. Ok (Resolve j a k.0 b.0, b.1)) r k (Word s (decimal b) ∷ left) (fits k h.1.1.0)
           ∙ then_number (λ b. Ok (Resolve j a k b.0, b.1)) s b left (fits b h.1.1.1.0);
+      clear = (refl, (refl, (quiet j h.0, (quiet a h.1.0, (quiet k h.1.1.0, (quiet b h.1.1.1.0, tt))))));
     }
 
 -- ---- words and parentheses
@@ -148,6 +185,10 @@ all_stand : (symbols : List Symbol) (ts : List Term) → AllByRecursion (IsPrint
 all_stand symbols [] h = tt
 all_stand symbols (t ∷ ts) h = let p = h.0 in (record { over = p.over; narrow = p.narrow }, all_stand symbols ts h.1)
 
+all_light : (symbols : List Symbol) (ts : List Term) → AllByRecursion (IsPrintableTerm symbols) ts → AllByRecursion IsLight ts
+all_light symbols [] h = tt
+all_light symbols (t ∷ ts) h = let p = h.0 in ((p.light, p.shallow), all_light symbols ts h.1)
+
 -- none or more terms, before a closing parenthesis
 record InsideSpelt (symbols : List Symbol) (ts : List Term) (at : ℕ) (rest : List ℕ) : Type 0 where
   sides : Sides
@@ -155,12 +196,13 @@ record InsideSpelt (symbols : List Symbol) (ts : List Term) (at : ℕ) (rest : L
   tokens : tokens_at at (joined_by (codes ",") (map (term_text symbols) ts) ++ (41 ∷ rest)) ≡ tokens_of sides ++ tokens_at next (41 ∷ rest)
   names : AreNames sides
   terms : terms text_variable symbols sides ≡ ts
+  known : AllByRecursion (KnownTerm symbols) (occurrences sides)
 
 inside_spelt : (symbols : List Symbol) → AreNamed symbols → (ts : List Term) (at : ℕ) (rest : List ℕ) → AllByRecursion (MayStand symbols) ts → InsideSpelt symbols ts at rest
-inside_spelt symbols h [] at rest may = record { sides = Empty; next = at; tokens = refl; names = tt; terms = refl }
+inside_spelt symbols h [] at rest may = record { sides = Empty; next = at; tokens = refl; names = tt; terms = refl; known = tt }
 inside_spelt symbols h (t ∷ ts) at rest may =
     let m = row_spelt symbols h t ts at (41 ∷ rest) may refl in
-    record { sides = Entry m.head m.args m.comma m.others; next = m.next; tokens = m.tokens; names = m.names; terms = m.terms }
+    record { sides = Entry m.head m.args m.comma m.others; next = m.next; tokens = m.tokens; names = m.names; terms = m.terms; known = m.known }
 
 after_terms : ℕ → Read (List Term) → Read Step
 after_terms j r = (r >>= λ value. the_sign Close value.1 >>= λ close. Ok (value.0, close.1)) >>= λ terms. Ok (Instance j terms.0, terms.1)
@@ -180,6 +222,7 @@ instance_spelt symbols h j ts at rest short may =
           then_number (λ j. bracketed (text_terms symbols) j.1 >>= λ terms. Ok (Instance j.0 terms.0, terms.1)) p j (bracket_tokens o (tokens_of m.sides) m.next ++ left) (fits j short)
           ∙ ap (λ (us : List Token). after_terms j (text_terms symbols us)) (append_assoc (tokens_of m.sides) (Punctuation m.next Close ∷ []) left)
           ∙ ap (after_terms j) (terms_back symbols m.sides ts m.next left m.names m.terms);
+      clear = ((j, refl, short), m.known, m.names, subst (AllByRecursion IsLight) (sym m.terms) (all_light symbols ts may));
     }
 
 -- ---- paths
@@ -187,6 +230,10 @@ instance_spelt symbols h j ts at rest short may =
 side_is_name : (side : Side) → is_name (side_word side) ≡ true
 side_is_name Left = refl
 side_is_name Right = refl
+
+side_is_quiet : (side : Side) → QuietWord (side_word side)
+side_is_quiet Left = refl
+side_is_quiet Right = refl
 
 side_back : (side : Side) (at : ℕ) (ts : List Token) → Gives (a_side (Word at (side_word side) ∷ ts)) side ts
 side_back Left at ts = refl
@@ -238,6 +285,7 @@ para_spelt symbols j a side k b n ns at rest h path =
           ∙ then_number (λ k. a_number k.1 >>= λ b. bracketed (separated Comma a_number (length b.1)) b.1 >>= λ path. Ok (Para j a side k.0 b.0 path.0, path.1)) s k (Word u (decimal b) ∷ brackets) (fits k h.1.1.0)
           ∙ then_number (λ b. bracketed (separated Comma a_number (length b.1)) b.1 >>= λ path. Ok (Para j a side k b.0 path.0, path.1)) u b brackets (fits b h.1.1.1.0)
           ∙ in_path_back j a side k b o n ns c left path;
+      clear = ((refl, (refl, (quiet j h.0, (quiet a h.1.0, (side_is_quiet side, (quiet k h.1.1.0, (quiet b h.1.1.1.0, tt))))))), path);
     }
 
 some_path : (symbols : List Symbol) (j a : ℕ) (side : Side) (k b : ℕ) (path : List ℕ) (at : ℕ) (rest : List ℕ) → AreShort (j ∷ a ∷ k ∷ b ∷ []) → AreShort path → path ≢ [] → StepSpelt symbols (Para j a side k b path) at rest
