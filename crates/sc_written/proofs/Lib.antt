@@ -28,3 +28,4 @@ pub mod AtomMeasures
 pub mod LiteralClear
 pub mod ClauseClear
 pub mod TermClear
+pub mod Passing

@@ -41,3 +41,15 @@ pub walk_unpassed : (fault_at : List Token → Option Place) (front ts : List To
 walk_unpassed fault_at front [] h = refl
 walk_unpassed fault_at front (t ∷ ts) h =
     ap (λ (o : Option Place). elim o [ Some p ↦ Some p | None ↦ passed_behind fault_at (front ++ t ∷ []) ts ]) h.0 ∙ walk_unpassed fault_at (front ++ t ∷ []) ts h.1
+
+-- what holds at one token
+pub walk_at : (P : List Token → Token → Type 0) (front ts : List Token) → Walk P front ts → (us : List Token) (t : Token) (more : List Token) → ts ≡ us ++ t ∷ more → P (front ++ us) t
+walk_at P front [] h [] t more e = absurd cc
+walk_at P front [] h (u ∷ us) t more e = absurd cc
+walk_at P front (x ∷ xs) h [] t more e =
+    let is : x ≡ t = cc in
+    subst (λ (us : List Token). P us t) (sym (append-nil front)) (subst (P front) is h.0)
+walk_at P front (x ∷ xs) h (u ∷ us) t more e =
+    let first : x ≡ u = cc in
+    let others : xs ≡ us ++ t ∷ more = cc in
+    subst (λ (u : Token). P (front ++ u ∷ us) t) first (subst (λ (us : List Token). P us t) (append_assoc front (x ∷ []) us) (walk_at P (front ++ x ∷ []) xs h.1 us t more others))
