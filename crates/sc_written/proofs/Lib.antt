@@ -29,3 +29,5 @@ pub mod LiteralClear
 pub mod ClauseClear
 pub mod TermClear
 pub mod Passing
+pub mod StepClear
+pub mod RoundTrip
