@@ -1,14 +1,12 @@
 -- Texts in a row, one more at the end.
 use Rattle.std.proofs.Common.{◌≡◌, ◌∙◌, sym, ap, refl, ℕ, zero, suc, ◌+◌, ◌<◌, false, List, [], ◌∷◌, ◌++◌, map, take, length, get_or, append_assoc, arith}
-use Rattle.std.specs.Prelude.{◌==◌, if◌then◌else◌, codes, decimal}
+use Rattle.std.specs.Prelude.{◌==◌, if◌then◌else◌}
 use Rattle.std.proofs.lemmas.List.{take_more, append-nil, map-append, length-take}
 use Rattle.std.proofs.Math.Dec.{eqb-suc-zero}
 use Rattle.sc_data.specs.declared.Line.{Line}
-use Rattle.sc_data.specs.declared.Step.{Step}
-use Rattle.sc_data.specs.declared.Step.TheVariants.{Input, Instance, Resolve, Merge, Para, Flip}
 use Rattle.sc_term.specs.declared.symbol.Symbol.{Symbol}
-use Rattle.sc_written.specs.ClauseText.{joined_by, clause_text}
-use Rattle.sc_written.specs.ProofText.{words, step_words, line_text, lines_text}
+use Rattle.sc_written.specs.ClauseText.{joined_by}
+use Rattle.sc_written.specs.ProofText.{line_text, lines_text}
 
 -- what stands before the next text
 abbrev before : List ℕ → List (List ℕ) → List ℕ
@@ -51,25 +49,3 @@ lines_more symbols n lines i d line lt is =
     let e = lines_text-snoc symbols n (take i lines) line in
     let k : length (take i lines) ≡ i = omega (arith, length-take {A = Line}) in
     cc
-
--- ---- the pieces of a line
-
-joined_by-append : (between u : List ℕ) (us : List (List ℕ)) (v : List ℕ) (vs : List (List ℕ))
-    → joined_by between (u ∷ us ++ v ∷ vs) ≡ joined_by between (u ∷ us) ++ (between ++ joined_by between (v ∷ vs))
-joined_by-append b u [] v vs = simp append_assoc refl
-joined_by-append b u (t ∷ us) v vs = let e = joined_by-append b t us v vs in simp append_assoc (ap (λ s. u ++ (b ++ s)) e)
-
-is_step : (symbols : List Symbol) (n : ℕ) (step : Step) → words (decimal n ∷ step_words symbols step) ≡ decimal n ++ codes " " ++ words (step_words symbols step)
-is_step symbols n (Input k) = refl
-is_step symbols n (Instance j terms) = refl
-is_step symbols n (Resolve j a k b) = refl
-is_step symbols n (Merge j a) = refl
-is_step symbols n (Para j a side k b path) = refl
-is_step symbols n (Flip j a) = refl
-
-pub line_pieces : (symbols : List Symbol) (n : ℕ) (line : Line) → line_text symbols n line
-    ≡ decimal n ++ codes " " ++ words (step_words symbols line.step) ++ codes " : " ++ clause_text symbols line.clause ++ codes ".\n"
-line_pieces symbols n line =
-    let e = joined_by-append (codes " ") (decimal n) (step_words symbols line.step) (codes ":") (clause_text symbols line.clause ∷ []) in
-    let s = is_step symbols n line.step in
-    rw e (rw s (simp append_assoc refl))

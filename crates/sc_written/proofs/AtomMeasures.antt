@@ -1,7 +1,7 @@
 -- Weight and depth of the tokens of atoms and literals, against those of the literals that are read of them.
-use Rattle.std.proofs.Common.{◌≡◌, ◌∙◌, sym, ap, subst, refl, ℕ, ◌+◌, ◌≤◌, max, sum, Bool, true, false, List, [], ◌∷◌, ◌++◌, map, append_assoc, arith}
+use Rattle.std.proofs.Common.{◌≡◌, ◌∙◌, sym, ap, subst, refl, ℕ, ◌+◌, ◌≤◌, sum, Bool, true, false, List, [], ◌∷◌, ◌++◌, map, append_assoc, arith}
 use Rattle.std.specs.Prelude.{◌||◌, if◌then◌else◌}
-use Rattle.std.specs.List.{AllByRecursion, list_any}
+use Rattle.std.specs.List.{list_any}
 use Rattle.std.proofs.lemmas.List.{append-nil}
 use Rattle.std.proofs.lemmas.List.Folds.{list_any-append}
 use Rattle.sc_data.specs.declared.Term.{Term}
@@ -17,7 +17,7 @@ use Rattle.sc_reading.specs.ClauseGrammar.{is_equality}
 use Rattle.sc_reading.specs.Measures.{has_weight, weight_so_far, greatest_level, depth_of_atom, depth_so_far}
 use Rattle.sc_reading.specs.Numbering.{literal_of}
 use Rattle.sc_reading.proofs.Spelling.{Head, Sides, Empty, Entry, in_brackets, behind_comma, tokens_of, side_tokens, occurrence}
-use Rattle.sc_reading.proofs.ClauseSpelling.{Equated, Atom, Plain, Equation, Wrapping, Bare, Negative, Brackets, NegativeBrackets, LiteralTree, equal_sign, atom_tokens, opening_tokens, closing_tokens, literal_tokens, literal_written}
+use Rattle.sc_reading.proofs.ClauseSpelling.{Atom, Plain, Equation, Wrapping, Bare, Negative, Brackets, NegativeBrackets, LiteralTree, equal_sign, atom_tokens, opening_tokens, closing_tokens, literal_tokens, literal_written}
 use Rattle.sc_reading.proofs.ClauseParts.{literal-args}
 use Rattle.sc_reading.proofs.NoStop.{literal_no_bar}
 use Rattle.sc_reading.proofs.Terms.{term_from, terms, sides_under}
@@ -185,7 +185,7 @@ module _ (symbols : List Symbol) where
   literal_along_by front (Negative at) a stop plain b le =
       let behind : BeginsAtom (front ++ Punctuation at Minus ∷ []) = behind_minus front at b in
       let along = subst (λ ts. Along (λ us. depth_so_far ((front ++ Punctuation at Minus ∷ []) ++ us) ≤ 256) (ts ++ Punctuation stop Stop ∷ [])) (sym (append-nil (atom_tokens a)))
-          (atom_along symbols (front ++ Punctuation at Minus ∷ []) a stop behind le) in
+      (atom_along symbols (front ++ Punctuation at Minus ∷ []) a stop behind le) in
       λ us more e. by along us more e
     where
       by : Along (λ us. depth_so_far ((front ++ Punctuation at Minus ∷ []) ++ us) ≤ 256) ((atom_tokens a ++ []) ++ Punctuation stop Stop ∷ []) → (us more : List Token)

@@ -1,7 +1,6 @@
 -- No limit is passed at any token of a clause that is within them, nor at the full stop behind it.
-use Rattle.std.proofs.Common.{◌≡◌, ◌∙◌, sym, ap, subst, refl, ℕ, ◌+◌, ◌≤◌, sum, Bool, true, false, List, [], ◌∷◌, ◌++◌, map, append_assoc, Option, None, arith}
+use Rattle.std.proofs.Common.{◌≡◌, ◌∙◌, sym, ap, subst, refl, ℕ, ◌≤◌, sum, Bool, true, false, List, [], ◌∷◌, ◌++◌, map, append_assoc, arith}
 use Rattle.std.specs.Prelude.{codes, flat_map}
-use Rattle.std.specs.List.{AllByRecursion}
 use Rattle.std.proofs.lemmas.List.{append-nil}
 use Rattle.sc_data.specs.declared.Literal.{Literal}
 use Rattle.sc_data.specs.Term.{largest}
@@ -12,21 +11,21 @@ use Rattle.sc_reading.specs.declared.token.Token.TheVariants.{Word, Punctuation}
 use Rattle.sc_reading.specs.declared.token.Sign.TheVariants.{Stop, Bar, Minus}
 use Rattle.sc_reading.specs.Measures.{weight_so_far, depth_so_far, open_commas, first_or_none}
 use Rattle.sc_reading.specs.Numbering.{literal_of}
-use Rattle.sc_reading.proofs.Spelling.{side_tokens, occurrence, occurrences, side_of}
-use Rattle.sc_reading.proofs.ClauseSpelling.{Equated, Atom, Plain, Equation, Wrapping, Bare, Negative, Brackets, NegativeBrackets, LiteralTree, ClauseTree, Falsum, Literals, equal_sign, atom_tokens, literal_tokens, behind_bar, clause_tokens, literal_written, clause_written, IsSpelt, IsSpeltClause}
-use Rattle.sc_reading.proofs.ArityLaw.{open_commas-append, SmallArity, side-commas}
+use Rattle.sc_reading.proofs.Spelling.{side_tokens, occurrences, side_of}
+use Rattle.sc_reading.proofs.ClauseSpelling.{Atom, Plain, Equation, Wrapping, Bare, Negative, Brackets, NegativeBrackets, LiteralTree, ClauseTree, Falsum, Literals, equal_sign, atom_tokens, literal_tokens, behind_bar, clause_tokens, literal_written, clause_written, IsSpeltClause}
+use Rattle.sc_reading.proofs.ArityLaw.{open_commas-append, side-commas}
 use Rattle.sc_reading.proofs.WeightLaw.{weight-append, sum-cons}
 use Rattle.sc_reading.proofs.DepthLaw.{largest-cons}
 use Rattle.sc_written.specs.TextWords.{text_variable}
 use Rattle.sc_written.proofs.Walks.{Walk, walk_join}
 use Rattle.sc_written.proofs.Prefixes.{Along, along_join, along_one}
-use Rattle.sc_written.proofs.KnownTrees.{IsPlainWrapping, AtomKnown, LiteralKnown, ClauseKnown}
+use Rattle.sc_written.proofs.KnownTrees.{IsPlainWrapping, AtomKnown, ClauseKnown}
 use Rattle.sc_written.proofs.EndedNames.{EndsNoName}
 use Rattle.sc_written.proofs.NamesKnown.{NameClear, no_name, ends_no_name}
 use Rattle.sc_written.proofs.CommasWithin.{FewDeep, at_once, join_even, side_few}
 use Rattle.sc_written.proofs.LastLiterals.{BeginsLiteral, at_first, at_bar}
 use Rattle.sc_written.proofs.AtomMeasures.{literal_heavy, literal_along}
-use Rattle.sc_written.proofs.LiteralClear.{small, NamesClear, literal_clear}
+use Rattle.sc_written.proofs.LiteralClear.{small, literal_clear}
 
 -- ---- the tokens of a clause and its full stop
 

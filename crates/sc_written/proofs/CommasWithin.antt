@@ -1,5 +1,5 @@
 -- How many commas and parentheses are open within the tokens of sides of at most eight arguments.
-use Rattle.std.proofs.Common.{◌≡◌, ◌∙◌, sym, ap, subst, refl, ℕ, ◌+◌, ◌-◌, ◌≤◌, List, [], ◌∷◌, ◌++◌, length, arith}
+use Rattle.std.proofs.Common.{◌≡◌, ◌∙◌, sym, ap, subst, refl, ℕ, ◌+◌, ◌≤◌, List, [], ◌∷◌, ◌++◌, length, arith}
 use Rattle.std.specs.List.{AllByRecursion}
 use Rattle.std.proofs.lemmas.List.{append-nil}
 use Rattle.sc_data.proofs.SubstitutionLaws.{all_split}
@@ -7,7 +7,7 @@ use Rattle.sc_reading.specs.declared.token.Token.{Token}
 use Rattle.sc_reading.specs.declared.token.Token.TheVariants.{Word, Punctuation}
 use Rattle.sc_reading.specs.declared.token.Sign.TheVariants.{Open, Close, Comma}
 use Rattle.sc_reading.specs.Measures.{open_commas, first_or_none}
-use Rattle.sc_reading.proofs.Spelling.{Head, Sides, Empty, Entry, in_brackets, behind_comma, tokens_of, side_tokens, count, occurrence, occurrences, side_of}
+use Rattle.sc_reading.proofs.Spelling.{Head, Sides, Empty, Entry, in_brackets, behind_comma, tokens_of, side_tokens, count, occurrences, side_of}
 use Rattle.sc_reading.proofs.ArityLaw.{open_commas-append, SmallArity, sides-commas, side-commas}
 use Rattle.sc_written.proofs.Prefixes.{Along, along_join, along_none, along_one, along_map}
 
@@ -50,7 +50,7 @@ brackets_few commas h (Entry g args comma others) few ih =
     let opening = Punctuation h.opening Open in
     let close = Punctuation h.closing Close in
     let even : open_commas commas (opening ∷ (ts ++ close ∷ [])) ≡ commas =
-        open_commas-append (0 ∷ commas) ts (close ∷ []) ∙ ap (λ (ns : List ℕ). open_commas ns (close ∷ [])) (sides-commas (Entry g args comma others) 0 commas) in
+    open_commas-append (0 ∷ commas) ts (close ∷ []) ∙ ap (λ (ns : List ℕ). open_commas ns (close ∷ [])) (sides-commas (Entry g args comma others) 0 commas) in
     along_join (FewDeep commas) (opening ∷ []) (ts ++ close ∷ [])
     (along_one (FewDeep commas) opening (at_once commas [] few refl) (record { few = omega arith; deep = omega arith }))
     (along_join (λ us. FewDeep commas (opening ∷ us)) ts (close ∷ []) (along_map (FewDeep (0 ∷ commas)) (λ us. FewDeep commas (opening ∷ us)) ts (open_deeper commas h.opening) ih)

@@ -1,16 +1,15 @@
 -- The names of terms and atoms over the symbols are known, and short numbers are in range.
-use Rattle.std.proofs.Common.{◌≡◌, ◌∙◌, sym, ap, refl, ℕ, zero, suc, ◌<◌, ◌≤◌, ◌^◌, Bool, true, false, List, [], ◌∷◌, ◌++◌, length, Some, arith, not, ◌||◌}
+use Rattle.std.proofs.Common.{◌≡◌, ◌∙◌, ap, refl, ℕ, zero, suc, ◌<◌, ◌≤◌, ◌^◌, Bool, true, false, List, [], ◌∷◌, ◌++◌, length, Some, arith, not, ◌||◌}
 use Rattle.std.specs.Prelude.{◌&&◌, codes, decimal, slice_get, nat_lt, if◌then◌else◌}
 use Rattle.std.specs.List.{AllByRecursion, list_any}
-use Rattle.std.specs.Str.Parse.{digits_value}
 use Rattle.std.proofs.lemmas.Bool.{le-ltb}
 use Rattle.std.proofs.lemmas.Fmt.{length-decimal-le}
 use Rattle.sc_term.specs.declared.symbol.Role.TheVariants.{Function, Predicate}
 use Rattle.sc_term.specs.declared.symbol.Symbol.{Symbol}
 use Rattle.sc_term.specs.Symbol.{same_symbol, IsSignature}
-use Rattle.sc_term.proofs.SymbolLaws.{equal_symbols, same_as_itself}
+use Rattle.sc_term.proofs.SymbolLaws.{same_as_itself}
 use Rattle.sc_reading.specs.declared.written.Occurrence.{Occurrence}
-use Rattle.sc_reading.specs.Numbering.{is_variable, function_at, predicate_at}
+use Rattle.sc_reading.specs.Numbering.{is_variable, function_at}
 use Rattle.sc_reading.proofs.ArityLaw.{SmallArity}
 use Rattle.sc_written.specs.TextWords.{is_longer_or_above, is_symbol, is_numbered_variable, digits_behind_x, is_unknown_term, is_unknown_atom, is_large_variable}
 use Rattle.sc_written.specs.Printable.{IsNamed}

@@ -1,5 +1,5 @@
 -- Which tokens the last literal of a clause has so far.
-use Rattle.std.proofs.Common.{◌≡◌, ◌∙◌, sym, ap, refl, ℕ, ◌+◌, ◌-◌, ◌≤◌, max, Bool, true, false, List, [], ◌∷◌, ◌++◌, length, length-append, append_assoc, drop, reverse, arith}
+use Rattle.std.proofs.Common.{◌≡◌, ◌∙◌, sym, ap, refl, ℕ, ◌+◌, ◌-◌, ◌≤◌, Bool, true, false, List, [], ◌∷◌, ◌++◌, length, length-append, append_assoc, drop, reverse, arith}
 use Rattle.std.specs.Prelude.{◌||◌, not, cond, if◌then◌else◌}
 use Rattle.std.specs.List.{AllByRecursion, list_any, after_last, suffix_len, prefix_len}
 use Rattle.std.proofs.lemmas.List.{append-nil, reverse-append}

@@ -27,7 +27,7 @@ use Rattle.sc_written.proofs.NumberTexts.{number_is_name}
 use Rattle.sc_written.proofs.NumberBack.{the_number_back}
 use Rattle.sc_written.proofs.ClauseSpelling.{clause_spelt}
 use Rattle.sc_written.proofs.ClauseBack.{text_clause_back}
-use Rattle.sc_written.proofs.StepSpelling.{StepTree, step_tokens, IsClearStep, StepSpelt, step_spelt}
+use Rattle.sc_written.proofs.StepSpelling.{StepTree, step_tokens, IsClearStep, step_spelt}
 
 -- number, step, colon, clause, full stop
 pub record LineTree : Type 0 where

@@ -1,5 +1,5 @@
 -- Nothing is told of the names of a literal over the symbols, at any of its tokens and at the one behind it.
-use Rattle.std.proofs.Common.{◌≡◌, ◌∙◌, sym, ap, subst, refl, ℕ, ◌+◌, ◌≤◌, Bool, true, false, List, [], ◌∷◌, ◌++◌, length, append_assoc, arith}
+use Rattle.std.proofs.Common.{◌≡◌, ◌∙◌, sym, ap, subst, refl, ℕ, ◌≤◌, Bool, true, false, List, [], ◌∷◌, ◌++◌, length, append_assoc, arith}
 use Rattle.std.specs.Prelude.{◌||◌}
 use Rattle.std.specs.List.{AllByRecursion, list_any}
 use Rattle.std.proofs.lemmas.List.{append-nil}
@@ -12,7 +12,7 @@ use Rattle.sc_reading.specs.declared.token.Sign.TheVariants.{Open, Close, Bar, M
 use Rattle.sc_reading.specs.declared.written.Occurrence.{Occurrence}
 use Rattle.sc_reading.specs.Token.{is_sign}
 use Rattle.sc_reading.specs.ClauseGrammar.{is_equality}
-use Rattle.sc_reading.specs.Measures.{last_literal, open_commas}
+use Rattle.sc_reading.specs.Measures.{open_commas}
 use Rattle.sc_reading.proofs.Spelling.{Head, Sides, Empty, Entry, tokens_of, side_tokens, count, occurrence, occurrences, IsName, AreNames}
 use Rattle.sc_reading.proofs.ClauseSpelling.{Equated, Atom, Plain, Equation, Wrapping, Bare, Negative, Brackets, NegativeBrackets, LiteralTree, equal_sign, atom_tokens, literal_tokens, HasNames, IsSpelt}
 use Rattle.sc_reading.proofs.ArityLaw.{SmallArity, side-commas}
@@ -151,7 +151,7 @@ equation_clear symbols front e b none names known =
     let arity = lk.arity in
     let walk_left = side_clear symbols false front e.left_head e.left_args none (first_places symbols front e.left_head e.left_args b arity few) known.0.1 names.0.1 in
     let at_sign : in_term_place (so_far false (front ++ left)) sign ≡ true =
-        place_is front left sign b (side_front e.left_head e.left_args) ∙ next_place false (is_nonempty (open_commas [] left)) (list_any is_equality left) (is_equality sign) (sign_is_equality e.positive e.at) in
+    place_is front left sign b (side_front e.left_head e.left_args) ∙ next_place false (is_nonempty (open_commas [] left)) (list_any is_equality left) (is_equality sign) (sign_is_equality e.positive e.at) in
     let clear_sign = term_name symbols false (front ++ left) sign lo (side_ends_known front e.left_head e.left_args names.0.0) at_sign lk in
     let so = left ++ sign ∷ [] in
     let here : list_any is_equality so ≡ true = list_any-append is_equality left (sign ∷ []) ∙ (λ i. side_no_equality e.left_head e.left_args i || (sign_is_equality e.positive e.at i || false)) in

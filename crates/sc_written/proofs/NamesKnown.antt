@@ -13,7 +13,7 @@ use Rattle.sc_reading.specs.Token.{is_sign, same_text}
 use Rattle.sc_reading.specs.ClauseLimits.{when}
 use Rattle.sc_reading.specs.declared.written.Occurrence.{Occurrence}
 use Rattle.sc_reading.proofs.Spelling.{Head, Sides, Empty, Entry, in_brackets, behind_comma, tokens_of, side_tokens, occurrence, occurrences, IsName, AreNames}
-use Rattle.sc_written.specs.TextWords.{is_unknown_term, is_unknown_atom, is_large_variable}
+use Rattle.sc_written.specs.TextWords.{is_unknown_atom, is_large_variable}
 use Rattle.sc_written.specs.TextPosition.{Formula, name_before, ended_name, in_term_place}
 use Rattle.sc_written.specs.TextLimits.{is_unknown}
 use Rattle.sc_written.proofs.KnownNames.{KnownTerm}
@@ -129,7 +129,7 @@ module _ (symbols : List Symbol) (is_term : Bool) where
       let all = subst (λ (us : List Token). HasPlaces is_term us ts) (sym (append_assoc front (word ∷ []) (opening ∷ []))) places in
       let r = ih inside (ends_no_name before opening refl) all known names in
       let closing : NameClear symbols is_term (inside ++ ts) (Punctuation h.closing Close) =
-          term_name symbols is_term (inside ++ ts) (Punctuation h.closing Close) r.1.0 r.1.1 (all ts [] (Punctuation h.closing Close) (sym (append-nil ts))) r.1.2 in
+      term_name symbols is_term (inside ++ ts) (Punctuation h.closing Close) r.1.0 r.1.1 (all ts [] (Punctuation h.closing Close) (sym (append-nil ts))) r.1.2 in
       (before_open symbols is_term before h.opening, walk_join (NameClear symbols is_term) inside ts (Punctuation h.closing Close ∷ []) r.0 (closing, tt))
 
   -- a side, whose own name is told by what follows
@@ -168,7 +168,7 @@ module _ (symbols : List Symbol) (is_term : Bool) where
       let k = all_split (KnownTerm symbols) (occurrences args) (occurrences others) known.1 in
       let s = side_clear_by front h args (sides_clear args) none (inner_places front h args behind places) k.0 names.1 in
       let o = others_clear (front ++ side) comma others (occurrence h args) (side_ends front h args (named_otherwise h names.0)) known.0 (sides_clear others)
-          (places_back is_term front side behind places) k.1 names.2 in (
+      (places_back is_term front side behind places) k.1 names.2 in (
         walk_join (NameClear symbols is_term) front side behind s o.0,
         (o.1.0, ap (λ (us : List Token). name_before (reverse us)) (sym (append_assoc front side behind)) ∙ o.1.1, o.1.2),
       )

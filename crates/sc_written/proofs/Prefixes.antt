@@ -1,6 +1,5 @@
 -- What holds of all the first tokens of a list.
-use Rattle.std.proofs.Common.{◌≡◌, ◌∙◌, sym, ap, subst, refl, List, [], ◌∷◌, ◌++◌}
-use Rattle.std.proofs.lemmas.List.{append-nil}
+use Rattle.std.proofs.Common.{◌≡◌, sym, subst, refl, List, [], ◌∷◌, ◌++◌}
 
 -- two ways to split a list: the first part of one is within that of the other, or passes it
 pub split_cases : {X : Type 0} (R : Type 0) (xs ys us more : List X) → xs ++ ys ≡ us ++ more → ((m : List X) → xs ≡ us ++ m → R) → ((v : List X) → us ≡ xs ++ v → ys ≡ v ++ more → R) → R

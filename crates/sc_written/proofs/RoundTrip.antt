@@ -1,7 +1,7 @@
 -- A printed proof section is read back: to the same lines, with no limit passed.
-use Rattle.std.proofs.Common.{◌≡◌, ◌∙◌, sym, ap, subst, refl, ℕ, ◌-◌, Bool, true, false, List, [], ◌∷◌, ◌++◌, take, length, append_assoc, Option, Some, None, Result, Ok, Err, arith}
+use Rattle.std.proofs.Common.{◌≡◌, ◌∙◌, sym, ap, subst, refl, ℕ, ◌-◌, Bool, false, List, [], ◌∷◌, ◌++◌, take, length, append_assoc, Option, Some, None, Result, Ok, Err, arith}
 use Rattle.std.specs.Prelude.{codes, decimal, flat_map, option_and_then, if◌then◌else◌}
-use Rattle.std.specs.List.{AllByRecursion, list_all}
+use Rattle.std.specs.List.{AllByRecursion}
 use Rattle.std.proofs.lemmas.List.{append-nil}
 use Rattle.std.proofs.Math.Seq.{take-length}
 use Rattle.sc_data.proofs.SubstitutionLaws.{all_split, all_join}
@@ -12,11 +12,10 @@ use Rattle.sc_reading.specs.declared.token.Token.{Token}
 use Rattle.sc_reading.specs.declared.token.Token.TheVariants.{Word, Punctuation}
 use Rattle.sc_reading.specs.declared.token.Sign.TheVariants.{Stop, Colon}
 use Rattle.sc_reading.specs.Token.{is_sign}
-use Rattle.sc_reading.specs.Tokens.{is_digit, tokens_behind}
-use Rattle.sc_reading.specs.Reader.{Read}
-use Rattle.sc_reading.specs.Faults.{first_passed, passed_behind, passed, before, judged}
+use Rattle.sc_reading.specs.Tokens.{tokens_behind}
+use Rattle.sc_reading.specs.Faults.{first_passed, passed, before, judged}
 use Rattle.sc_reading.proofs.ClauseSpelling.{clause_tokens}
-use Rattle.sc_written.specs.TextPosition.{TextPosition, position_behind, text_position, formula}
+use Rattle.sc_written.specs.TextPosition.{position_behind, text_position, formula}
 use Rattle.sc_written.specs.TextLimits.{text_bounds, text_limits, text_fault_at}
 use Rattle.sc_written.specs.ProofText.{proof_text}
 use Rattle.sc_written.specs.ProofGrammar.{proof_section, alone}
@@ -30,11 +29,11 @@ use Rattle.sc_written.proofs.NumberTexts.{all_digits}
 use Rattle.sc_written.proofs.WordRows.{fits}
 use Rattle.sc_written.proofs.NamesKnown.{NameClear}
 use Rattle.sc_written.proofs.ClauseClear.{Measured, clause_names, clause_measured}
-use Rattle.sc_written.proofs.Passing.{Passes, passes_by, HasNoColon, formula_is_clause, formula_is_none}
+use Rattle.sc_written.proofs.Passing.{Passes, passes_by, formula_is_clause}
 use Rattle.sc_written.proofs.StepSpelling.{step_tokens, quiet}
-use Rattle.sc_written.proofs.StepClear.{Passing, step_passes, number_passes, step_no_colon, step_no_stop}
+use Rattle.sc_written.proofs.StepClear.{step_passes, number_passes, step_no_colon, step_no_stop}
 use Rattle.sc_written.proofs.LineSpelling.{LineTree, line_tokens, IsClearLine}
-use Rattle.sc_written.proofs.ProofSpelling.{heading_tokens, section_tokens, ProofSpelt, proof_spelt}
+use Rattle.sc_written.proofs.ProofSpelling.{heading_tokens, section_tokens, proof_spelt}
 
 -- ---- sentences
 
@@ -103,7 +102,7 @@ module _ (symbols : List Symbol) where
   sentence_unpassed : (front ts : List Token) (stop : ℕ) → EndsSentence front → HasNoStop ts → Walk (Passes symbols) [] (ts ++ Punctuation stop Stop ∷ []) → Walk Unpassed front (ts ++ Punctuation stop Stop ∷ [])
   sentence_unpassed front ts stop s h walk =
       walk_splits Unpassed front (ts ++ Punctuation stop Stop ∷ []) (λ us t more e.
-        unpassed_at front us t s (no_stop_before ts us more stop t h e) (walk_at (Passes symbols) [] (ts ++ Punctuation stop Stop ∷ []) walk us t more e))
+      unpassed_at front us t s (no_stop_before ts us more stop t h e) (walk_at (Passes symbols) [] (ts ++ Punctuation stop Stop ∷ []) walk us t more e))
 
   -- ---- a line
 
@@ -126,10 +125,10 @@ module _ (symbols : List Symbol) where
       let bars = step_no_colon l.step in
       let s = step_passes symbols l.at w digits l.step h.step in
       let clause = walk_move (λ us t. NameClear symbols false us t × Measured (us ++ t ∷ [])) (Passes symbols) base [] all (λ us t k.
-          passes_by symbols (base ++ us) t (Some (record { is_term = false; tokens = us })) (Some (record { is_term = false; tokens = us ++ t ∷ [] }))
-          (ap (λ (ts : List Token). formula (number ∷ ts)) (append_assoc steps (colon ∷ []) us) ∙ formula_is_clause l.at w digits steps l.colon us bars)
-          (ap (λ (ts : List Token). formula (number ∷ ts)) (append_assoc (steps ++ colon ∷ []) us (t ∷ []) ∙ append_assoc steps (colon ∷ []) (us ++ t ∷ [])) ∙ formula_is_clause l.at w digits steps l.colon (us ++ t ∷ []) bars)
-          k.0 k.1) (clause_walk l h) in (
+      passes_by symbols (base ++ us) t (Some (record { is_term = false; tokens = us })) (Some (record { is_term = false; tokens = us ++ t ∷ [] }))
+      (ap (λ (ts : List Token). formula (number ∷ ts)) (append_assoc steps (colon ∷ []) us) ∙ formula_is_clause l.at w digits steps l.colon us bars)
+      (ap (λ (ts : List Token). formula (number ∷ ts)) (append_assoc (steps ++ colon ∷ []) us (t ∷ []) ∙ append_assoc steps (colon ∷ []) (us ++ t ∷ [])) ∙ formula_is_clause l.at w digits steps l.colon (us ++ t ∷ []) bars)
+      k.0 k.1) (clause_walk l h) in (
         number_passes symbols l.at w digits (quiet l.number h.number),
         walk_join (Passes symbols) (number ∷ []) steps (colon ∷ all) s.walk (s.end l.colon, subst (λ (ts : List Token). Walk (Passes symbols) ts all) (append-nil base) clause),
       )

@@ -1,6 +1,6 @@
 -- No limit is passed at any token of a step, nor at the colon behind it.
-use Rattle.std.proofs.Common.{◌≡◌, ◌∙◌, sym, ap, subst, refl, ℕ, ◌+◌, ◌≤◌, Bool, true, false, List, [], ◌∷◌, ◌++◌, append_assoc, Some, None, arith}
-use Rattle.std.specs.Prelude.{◌&&◌, codes, decimal}
+use Rattle.std.proofs.Common.{◌≡◌, ◌∙◌, sym, ap, subst, refl, ℕ, ◌+◌, Bool, true, false, List, [], ◌∷◌, ◌++◌, append_assoc, Some, None, arith}
+use Rattle.std.specs.Prelude.{codes, decimal}
 use Rattle.std.specs.List.{AllByRecursion, list_all}
 use Rattle.std.proofs.lemmas.List.{append-nil}
 use Rattle.sc_data.proofs.SubstitutionLaws.{all_split, all_join}
@@ -8,7 +8,7 @@ use Rattle.sc_term.specs.declared.symbol.Symbol.{Symbol}
 use Rattle.sc_reading.specs.declared.token.Token.{Token}
 use Rattle.sc_reading.specs.declared.token.Token.TheVariants.{Word, Punctuation}
 use Rattle.sc_reading.specs.declared.token.Sign.TheVariants.{Open, Close, Comma, Stop, Colon}
-use Rattle.sc_reading.specs.Token.{is_sign, is_word, same_text}
+use Rattle.sc_reading.specs.Token.{is_sign, is_word}
 use Rattle.sc_reading.specs.Tokens.{is_digit}
 use Rattle.sc_reading.specs.ClauseLimits.{when}
 use Rattle.sc_reading.proofs.Spelling.{Head, Sides, Empty, Entry, in_brackets, tokens_of, side_tokens, occurrence, occurrences, side_of, IsName, AreNames}
@@ -17,9 +17,9 @@ use Rattle.sc_reading.proofs.NoStop.{OfLiterals, sides_all, side_all}
 use Rattle.sc_data.specs.declared.Term.{Term}
 use Rattle.sc_reading.proofs.Terms.{term_from, terms}
 use Rattle.sc_written.specs.TextWords.{text_variable}
-use Rattle.sc_written.specs.TextPosition.{is_instance, last_term, formula}
+use Rattle.sc_written.specs.TextPosition.{is_instance, last_term}
 use Rattle.sc_written.specs.TextLimits.{large_number}
-use Rattle.sc_written.specs.Printable.{IsShort, AreShort}
+use Rattle.sc_written.specs.Printable.{AreShort}
 use Rattle.sc_written.proofs.Walks.{Walk, walk_join, walk_move, walk_splits, walk_at}
 use Rattle.sc_written.proofs.WordTokens.{past}
 use Rattle.sc_written.proofs.WordRows.{word_tokens, path_tokens}
@@ -137,15 +137,15 @@ module _ (symbols : List Symbol) (at : ℕ) (w : List ℕ) (digits : list_all is
         → IsLight (term_of h args) → Walk TermPasses front (side_tokens h args)
     side_passes front h args b bars known names light =
         walk_splits TermPasses front (side_tokens h args) (λ us t more e.
-          let close = Punctuation 0 Close ∷ [] in
-          let longer = e ∙ sym (append_assoc us (t ∷ []) more) in
-          let colons = no_colon_front (us ++ t ∷ []) more (subst HasNoColon longer (side_no_colon h args)) in
-          let so = b.law us ∙ term_so_far h args us (t ∷ more) e in
-          let then = ap (last_term 0 []) (append_assoc front us (t ∷ [])) ∙ b.law (us ++ t ∷ []) ∙ term_so_far h args (us ++ t ∷ []) more longer in
-          let clear = walk_at (NameClear symbols true) [] (side_tokens h args) (term_names symbols h args known names) us t more e in
-          let measured = term_measured symbols h args 0 known light.0 light.1 (us ++ t ∷ []) (more ++ close) (ap (λ ts. ts ++ close) longer ∙ append_assoc (us ++ t ∷ []) more close) in
-          term_passes (front ++ us) t (subst HasNoColon (sym (append_assoc front us (t ∷ []))) (no_colon_join front (us ++ t ∷ []) bars colons))
-          (subst (λ (ts : List Token). NameClear symbols true ts t) (sym so) clear) (subst Measured (sym then) measured))
+        let close = Punctuation 0 Close ∷ [] in
+        let longer = e ∙ sym (append_assoc us (t ∷ []) more) in
+        let colons = no_colon_front (us ++ t ∷ []) more (subst HasNoColon longer (side_no_colon h args)) in
+        let so = b.law us ∙ term_so_far h args us (t ∷ more) e in
+        let then = ap (last_term 0 []) (append_assoc front us (t ∷ [])) ∙ b.law (us ++ t ∷ []) ∙ term_so_far h args (us ++ t ∷ []) more longer in
+        let clear = walk_at (NameClear symbols true) [] (side_tokens h args) (term_names symbols h args known names) us t more e in
+        let measured = term_measured symbols h args 0 known light.0 light.1 (us ++ t ∷ []) (more ++ close) (ap (λ ts. ts ++ close) longer ∙ append_assoc (us ++ t ∷ []) more close) in
+        term_passes (front ++ us) t (subst HasNoColon (sym (append_assoc front us (t ∷ []))) (no_colon_join front (us ++ t ∷ []) bars colons))
+        (subst (λ (ts : List Token). NameClear symbols true ts t) (sym so) clear) (subst Measured (sym then) measured))
 
     module _ (front : List Token) (h : Head) (args : Sides) (b : BeginsTerm front) (bars : HasNoColon front) (known : AllByRecursion (KnownTerm symbols) (side_of h args)) (name : IsName h) where
       abbrev side : List Token
@@ -230,9 +230,13 @@ module _ (symbols : List Symbol) (at : ℕ) (w : List ℕ) (digits : list_all is
         record {
           walk = (
             passes_by symbols (number ∷ []) named None None (formula_is_none at w digits [] tt refl) (formula_is_open at w digits i) refl tt,
-            (passes_by symbols (number ∷ named ∷ []) of None None (formula_is_open at w digits i) (formula_is_still_open at w digits i j v) q.number tt,
-            (passes_by symbols (number ∷ named ∷ of ∷ []) opening None (Some (record { is_term = true; tokens = [] })) (formula_is_still_open at w digits i j v) (formula_is_term at w digits i j o v [] tt) refl nothing_measured,
-            walk_move TermPasses (Passes symbols) start [] rest (λ us t p. p) r.walk)),
+            (
+              passes_by symbols (number ∷ named ∷ []) of None None (formula_is_open at w digits i) (formula_is_still_open at w digits i j v) q.number tt,
+              (
+                passes_by symbols (number ∷ named ∷ of ∷ []) opening None (Some (record { is_term = true; tokens = [] })) (formula_is_still_open at w digits i j v) (formula_is_term at w digits i j o v [] tt) refl nothing_measured,
+                walk_move TermPasses (Passes symbols) start [] rest (λ us t p. p) r.walk,
+              ),
+            ),
           );
           end = λ colon.
               passes_by symbols (start ++ rest) (Punctuation colon Colon) (Some (record { is_term = true; tokens = last_term 0 [] rest })) (Some (record { is_term = false; tokens = [] }))

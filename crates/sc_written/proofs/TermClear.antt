@@ -1,9 +1,8 @@
 -- No limit is passed at any token of a term of an instance step that is within them, nor at the token behind it.
-use Rattle.std.proofs.Common.{◌≡◌, ◌∙◌, sym, ap, subst, refl, ℕ, zero, suc, ◌+◌, ◌≤◌, sum, Bool, true, false, List, [], ◌∷◌, ◌++◌, map, reverse, append_assoc, Some, None, arith}
+use Rattle.std.proofs.Common.{◌≡◌, ◌∙◌, sym, ap, subst, refl, ℕ, zero, suc, ◌+◌, ◌≤◌, Bool, true, false, List, [], ◌∷◌, ◌++◌, append_assoc, arith}
 use Rattle.std.specs.Prelude.{◌&&◌, ◌==◌, if◌then◌else◌}
 use Rattle.std.specs.List.{AllByRecursion, list_any}
 use Rattle.std.proofs.lemmas.List.{append-nil, reverse-append}
-use Rattle.std.proofs.lemmas.List.Folds.{list_any-append}
 use Rattle.std.proofs.Math.Dec.{eqb-suc-zero}
 use Rattle.sc_data.proofs.SubstitutionLaws.{all_join}
 use Rattle.sc_data.specs.declared.Term.{Term}
@@ -11,16 +10,15 @@ use Rattle.sc_data.specs.Term.{term_weight, term_depth}
 use Rattle.sc_term.specs.declared.symbol.Symbol.{Symbol}
 use Rattle.sc_reading.specs.declared.token.Token.{Token}
 use Rattle.sc_reading.specs.declared.token.Token.TheVariants.{Word, Punctuation}
-use Rattle.sc_reading.specs.declared.token.Sign.TheVariants.{Open, Close, Comma, Bar}
+use Rattle.sc_reading.specs.declared.token.Sign.TheVariants.{Close, Comma, Bar}
 use Rattle.sc_reading.specs.Token.{is_sign}
 use Rattle.sc_reading.specs.ClauseGrammar.{is_equality}
-use Rattle.sc_reading.specs.Measures.{weight_so_far, greatest_level, depth_of_atom, depth_so_far, open_commas}
-use Rattle.sc_reading.proofs.Spelling.{Head, Sides, Empty, Entry, in_brackets, behind_comma, tokens_of, side_tokens, occurrence, occurrences, side_of, IsName, AreNames}
+use Rattle.sc_reading.specs.Measures.{weight_so_far, greatest_level, depth_of_atom}
+use Rattle.sc_reading.proofs.Spelling.{Head, Sides, Empty, Entry, in_brackets, behind_comma, tokens_of, side_tokens, occurrence, side_of, IsName, AreNames}
 use Rattle.sc_reading.proofs.ClauseSpelling.{Plain}
-use Rattle.sc_reading.proofs.ArityLaw.{open_commas-append, side-commas}
+use Rattle.sc_reading.proofs.ArityLaw.{side-commas}
 use Rattle.sc_reading.proofs.Terms.{term_from, terms}
 use Rattle.sc_reading.proofs.WeightLaw.{weight-append, side-weight}
-use Rattle.sc_reading.proofs.DepthLaw.{depth_of}
 use Rattle.sc_written.specs.TextWords.{text_variable}
 use Rattle.sc_written.specs.TextPosition.{around, last_term, name_before}
 use Rattle.sc_written.proofs.Walks.{Walk}

@@ -1,5 +1,5 @@
 -- The tokens of sides count no more than the terms that are read of them weigh, and nest no deeper.
-use Rattle.std.proofs.Common.{◌≡◌, ◌∙◌, sym, ap, subst, refl, ℕ, ◌+◌, ◌-◌, ◌≤◌, max, sum, Bool, true, false, List, [], ◌∷◌, ◌++◌, map, append_assoc, Option, Some, None, arith}
+use Rattle.std.proofs.Common.{◌≡◌, ap, refl, ℕ, ◌+◌, ◌-◌, ◌≤◌, max, sum, Bool, true, false, List, [], ◌∷◌, ◌++◌, map, append_assoc, Option, Some, None, arith}
 use Rattle.std.specs.Prelude.{◌==◌, if◌then◌else◌}
 use Rattle.std.specs.Str.Parse.{digits_value}
 use Rattle.std.proofs.lemmas.Bool.{eqb-true}
@@ -9,8 +9,8 @@ use Rattle.sc_data.specs.Term.{largest, term_weight, weight_step, term_depth, de
 use Rattle.sc_data.proofs.TermLaws.{fold-Var, weight-App, depth-App}
 use Rattle.sc_term.specs.declared.symbol.Symbol.{Symbol}
 use Rattle.sc_reading.specs.declared.token.Token.{Token}
-use Rattle.sc_reading.specs.declared.token.Token.TheVariants.{Word, Punctuation}
-use Rattle.sc_reading.specs.declared.token.Sign.TheVariants.{Open, Close}
+use Rattle.sc_reading.specs.declared.token.Token.TheVariants.{Punctuation}
+use Rattle.sc_reading.specs.declared.token.Sign.TheVariants.{Close}
 use Rattle.sc_reading.specs.declared.written.Occurrence.{Occurrence}
 use Rattle.sc_reading.specs.Measures.{weight_so_far, greatest_level}
 use Rattle.sc_reading.specs.Numbering.{function_at, symbol_number}

@@ -32,9 +32,10 @@ walk_move P Q base front (t ∷ ts) f h =
 -- what holds wherever the tokens are split
 pub walk_splits : (P : List Token → Token → Type 0) (front ts : List Token) → ((us : List Token) (t : Token) (more : List Token) → ts ≡ us ++ t ∷ more → P (front ++ us) t) → Walk P front ts
 walk_splits P front [] h = tt
-walk_splits P front (t ∷ ts) h =
-    (subst (λ (us : List Token). P us t) (append-nil front) (h [] t ts refl),
-    walk_splits P (front ++ t ∷ []) ts (λ us u more e. subst (λ (us : List Token). P us u) (sym (append_assoc front (t ∷ []) us)) (h (t ∷ us) u more (ap (λ us. t ∷ us) e))))
+walk_splits P front (t ∷ ts) h = (
+  subst (λ (us : List Token). P us t) (append-nil front) (h [] t ts refl),
+  walk_splits P (front ++ t ∷ []) ts (λ us u more e. subst (λ (us : List Token). P us u) (sym (append_assoc front (t ∷ []) us)) (h (t ∷ us) u more (ap (λ us. t ∷ us) e))),
+)
 
 -- no limit is passed where none is at any token
 pub walk_unpassed : (fault_at : List Token → Option Place) (front ts : List Token) → Walk (λ us t. fault_at (us ++ t ∷ []) ≡ None) front ts → passed_behind fault_at front ts ≡ None

@@ -1,6 +1,6 @@
 use Rattle.std.proofs.Common.{◌≡◌, ◌++◌, [], ◌∷◌, append_assoc, refl}
 use Rattle.std.specs.Prelude.{decimal}
-use Rattle.sc_print.proofs.Rows.{line_pieces}
+use Rattle.sc_written.proofs.LineText.{line_pieces}
 use Rattle.sc_print.proofs.line.line.Goals as goal
 
 pub returns : goal.returns
