@@ -31,3 +31,4 @@ pub mod TermClear
 pub mod Passing
 pub mod StepClear
 pub mod RoundTrip
+pub mod RoundTripExample
