@@ -32,3 +32,4 @@ pub mod Passing
 pub mod StepClear
 pub mod RoundTrip
 pub mod RoundTripExample
+pub mod TokenNames
