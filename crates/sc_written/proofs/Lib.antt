@@ -33,3 +33,4 @@ pub mod StepClear
 pub mod RoundTrip
 pub mod RoundTripExample
 pub mod TokenNames
+pub mod ProblemNames

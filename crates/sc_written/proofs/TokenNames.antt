@@ -1,6 +1,6 @@
 -- The words of a text are names, but for `$F`.
-use Rattle.std.proofs.Common.{◌≡◌, ◌∙◌, sym, ap, refl, ℕ, ◌+◌, Bool, true, false, List, [], ◌∷◌, map, drop, not}
-use Rattle.std.specs.Prelude.{◌&&◌, ◌||◌, ◌==◌, codes, if◌then◌else◌}
+use Rattle.std.proofs.Common.{◌≡◌, sym, ap, refl, ℕ, ◌+◌, Bool, true, false, List, [], ◌∷◌, map, drop, not}
+use Rattle.std.specs.Prelude.{◌&&◌, ◌==◌, codes, if◌then◌else◌}
 use Rattle.std.specs.List.{AllByRecursion, list_any, list_all}
 use Rattle.std.specs.Cmp.Lexicographic.{bytes_decides}
 use Rattle.sc_reading.specs.declared.token.Token.{Token}
