@@ -10,14 +10,14 @@ use Rattle.sc_reading.specs.declared.token.Token.{Token}
 use Rattle.sc_reading.specs.declared.token.Token.TheVariants.{Word, Punctuation}
 use Rattle.sc_reading.specs.declared.token.Sign.TheVariants.{Stop}
 use Rattle.sc_reading.specs.Token.{same_text}
-use Rattle.sc_reading.specs.Tokens.{is_digit, tokens_behind}
+use Rattle.sc_reading.specs.Tokens.{is_digit}
 use Rattle.sc_reading.specs.Reader.{Read, ◌>>=◌}
 use Rattle.sc_reading.proofs.Booleans.{parts_hold}
 use Rattle.sc_reading.proofs.Taken.{Gives}
 use Rattle.sc_written.specs.ProofText.{line_text, lines_text, proof_text}
 use Rattle.sc_written.specs.ProofGrammar.{a_line, lines_within, the_heading, proof_section, alone}
 use Rattle.sc_written.specs.Printable.{AreNamed, IsPrintableLine, IsPrintable}
-use Rattle.sc_written.proofs.WordTokens.{tokens_at, from_start, past, word_token, stop_token, line_feed_token, no_token}
+use Rattle.sc_written.proofs.WordTokens.{tokens_at, past, word_token, stop_token, line_feed_token, no_token}
 use Rattle.sc_written.proofs.NumberTexts.{all_digits}
 use Rattle.sc_written.proofs.LineSpelling.{LineTree, line_tokens, IsClearLine, LineSpelt, line_spelt}
 
@@ -101,20 +101,23 @@ lines_spelt symbols h n (line ∷ lines) at rest few may =
 
 -- ---- the section
 
-abbrev pub section_tokens : List LineTree → ℕ → List Token
-section_tokens trees end = heading_tokens 0 (codes "proof") ++ (flat_map line_tokens trees ++ heading_tokens end (codes "end_of_proof"))
+abbrev pub section_tokens : ℕ → List LineTree → ℕ → List Token
+section_tokens at trees end = heading_tokens at (codes "proof") ++ (flat_map line_tokens trees ++ heading_tokens end (codes "end_of_proof"))
 
-pub record ProofSpelt (symbols : List Symbol) (lines : List Line) : Type 0 where
+-- the tree of a section's text, of which the first byte is this one
+pub record ProofSpelt (symbols : List Symbol) (lines : List Line) (at : ℕ) : Type 0 where
   pub trees : List LineTree
   pub end : ℕ
-  pub tokens : tokens_behind 0 (proof_text symbols lines) ≡ section_tokens trees end
-  pub read : Gives (alone (proof_section symbols (section_tokens trees end))) lines []
+  pub tokens : tokens_at at (proof_text symbols lines) ≡ section_tokens at trees end
+  pub read : Gives (alone (proof_section symbols (section_tokens at trees end))) lines []
   pub clear : AllByRecursion (IsClearLine symbols) trees
 
-begin_tokens : (rest : List ℕ) → tokens_at 0 (codes "proof.\n" ++ rest) ≡ heading_tokens 0 (codes "proof") ++ tokens_at 7 rest
-begin_tokens rest =
-    word_token 0 (codes "proof") (46 ∷ 10 ∷ rest) refl refl ∙ ap (λ (us : List Token). Word 0 (codes "proof") ∷ us)
-    (stop_token 5 (10 ∷ rest) ∙ ap (λ (us : List Token). Punctuation 5 Stop ∷ us) (line_feed_token 6 rest))
+begin_tokens : (at : ℕ) (rest : List ℕ) → tokens_at at (codes "proof.\n" ++ rest) ≡ heading_tokens at (codes "proof") ++ tokens_at (past (codes "proof") at + 1 + 1) rest
+begin_tokens at rest =
+    let w = codes "proof" in
+    let p = past w at in
+    word_token at w (46 ∷ 10 ∷ rest) refl refl ∙ ap (λ (us : List Token). Word at w ∷ us)
+    (stop_token p (10 ∷ rest) ∙ ap (λ (us : List Token). Punctuation p Stop ∷ us) (line_feed_token (p + 1) rest))
 
 end_tokens : (at : ℕ) → tokens_at at (codes "end_of_proof.\n") ≡ heading_tokens at (codes "end_of_proof")
 end_tokens at =
@@ -126,11 +129,12 @@ end_tokens at =
 after_lines : Read (List Line) → Read (List Line)
 after_lines r = alone (r >>= λ lines. the_heading (codes "end_of_proof") lines.1 >>= λ end. Ok (lines.0, end.1))
 
-pub proof_spelt : (symbols : List Symbol) (lines : List Line) → IsPrintable symbols lines → ProofSpelt symbols lines
+pub proof_spelt : (symbols : List Symbol) (lines : List Line) (at : ℕ) → IsPrintable symbols lines → ProofSpelt symbols lines at
 unfolding after_lines
-proof_spelt symbols lines may =
+proof_spelt symbols lines at may =
     let few = may.few in
-    let m = lines_spelt symbols may.named 1 lines 7 (codes "end_of_proof.\n") (omega arith) may.each in
+    let next = past (codes "proof") at + 1 + 1 in
+    let m = lines_spelt symbols may.named 1 lines next (codes "end_of_proof.\n") (omega arith) may.each in
     let closing = heading_tokens m.next (codes "end_of_proof") in
     let inside = flat_map line_tokens m.trees in
     let sum = length-append inside closing in
@@ -139,16 +143,9 @@ proof_spelt symbols lines may =
       trees = m.trees;
       end = m.next;
       tokens =
-          from_start (proof_text symbols lines)
-          ∙ ap (tokens_at 0) (append_assoc (codes "proof.\n") (lines_text symbols 1 lines) (codes "end_of_proof.\n"))
-          ∙ begin_tokens (lines_text symbols 1 lines ++ codes "end_of_proof.\n")
-          ∙ ap (λ (us : List Token). heading_tokens 0 (codes "proof") ++ us) (m.tokens ∙ ap (λ (us : List Token). inside ++ us) (end_tokens m.next));
+          ap (tokens_at at) (append_assoc (codes "proof.\n") (lines_text symbols 1 lines) (codes "end_of_proof.\n"))
+          ∙ begin_tokens at (lines_text symbols 1 lines ++ codes "end_of_proof.\n")
+          ∙ ap (λ (us : List Token). heading_tokens at (codes "proof") ++ us) (m.tokens ∙ ap (λ (us : List Token). inside ++ us) (end_tokens m.next));
       read = ap after_lines (m.read (length (inside ++ closing)) m.next (Punctuation (past (codes "end_of_proof") m.next) Stop ∷ []) (omega arith));
       clear = m.clear;
     }
-
--- the lines are read back, as far as the productions go
-pub proof_read : (symbols : List Symbol) (lines : List Line) → IsPrintable symbols lines → Gives (alone (proof_section symbols (tokens_behind 0 (proof_text symbols lines)))) lines []
-proof_read symbols lines may =
-    let s = proof_spelt symbols lines may in
-    ap (λ (us : List Token). alone (proof_section symbols us)) s.tokens ∙ s.read

@@ -3,7 +3,7 @@ use Rattle.std.proofs.Common.{◌≡◌, ◌∙◌, sym, ap, subst, refl, ℕ, �
 use Rattle.std.specs.Prelude.{codes, decimal, flat_map, option_and_then, if◌then◌else◌}
 use Rattle.std.specs.List.{AllByRecursion}
 use Rattle.std.proofs.lemmas.List.{append-nil}
-use Rattle.std.proofs.Math.Seq.{take-length}
+use Rattle.std.proofs.Math.Seq.{take-length, drop-append_seam}
 use Rattle.sc_data.proofs.SubstitutionLaws.{all_split, all_join}
 use Rattle.sc_data.specs.declared.Line.{Line}
 use Rattle.sc_term.specs.declared.symbol.Symbol.{Symbol}
@@ -12,7 +12,6 @@ use Rattle.sc_reading.specs.declared.token.Token.{Token}
 use Rattle.sc_reading.specs.declared.token.Token.TheVariants.{Word, Punctuation}
 use Rattle.sc_reading.specs.declared.token.Sign.TheVariants.{Stop, Colon}
 use Rattle.sc_reading.specs.Token.{is_sign}
-use Rattle.sc_reading.specs.Tokens.{tokens_behind}
 use Rattle.sc_reading.specs.Faults.{first_passed, passed, before, judged}
 use Rattle.sc_reading.proofs.ClauseSpelling.{clause_tokens}
 use Rattle.sc_written.specs.TextPosition.{position_behind, text_position, formula}
@@ -24,7 +23,7 @@ use Rattle.sc_written.specs.Printable.{IsPrintable}
 use Rattle.sc_written.proofs.Walks.{Walk, walk_join, walk_both, walk_move, walk_splits, walk_at, walk_unpassed}
 use Rattle.sc_written.proofs.Prefixes.{split_cases}
 use Rattle.sc_reading.proofs.NoStop.{clause_no_stop}
-use Rattle.sc_written.proofs.WordTokens.{past}
+use Rattle.sc_written.proofs.WordTokens.{tokens_at, from_byte, past}
 use Rattle.sc_written.proofs.NumberTexts.{all_digits}
 use Rattle.sc_written.proofs.WordRows.{fits}
 use Rattle.sc_written.proofs.NamesKnown.{NameClear}
@@ -165,10 +164,11 @@ module _ (symbols : List Symbol) where
       let one = line_sentence front l h.0 s in
       then_sentences front (line_tokens l) (flat_map line_tokens ls) one (lines_sentences (front ++ line_tokens l) ls h.1 one.ends)
 
-  begin_sentence : Sentences [] (heading_tokens 0 (codes "proof"))
-  begin_sentence =
-      one_sentence [] (Word 0 (codes "proof") ∷ []) (past (codes "proof") 0) at_start (refl, tt)
-      (passes_by symbols [] (Word 0 (codes "proof")) None None refl refl refl tt, (passes_by symbols (Word 0 (codes "proof") ∷ []) (Punctuation (past (codes "proof") 0) Stop) None None refl refl refl tt, tt))
+  begin_sentence : (at : ℕ) → Sentences [] (heading_tokens at (codes "proof"))
+  begin_sentence at =
+      let w = codes "proof" in
+      one_sentence [] (Word at w ∷ []) (past w at) at_start (refl, tt)
+      (passes_by symbols [] (Word at w) None None refl refl refl tt, (passes_by symbols (Word at w ∷ []) (Punctuation (past w at) Stop) None None refl refl refl tt, tt))
 
   end_sentence : (front : List Token) (at : ℕ) → EndsSentence front → Sentences front (heading_tokens at (codes "end_of_proof"))
   end_sentence front at s =
@@ -176,34 +176,43 @@ module _ (symbols : List Symbol) where
       one_sentence front (Word at w ∷ []) (past w at) s (refl, tt)
       (passes_by symbols [] (Word at w) None None refl refl refl tt, (passes_by symbols (Word at w ∷ []) (Punctuation (past w at) Stop) None None refl refl refl tt, tt))
 
-  section_sentences : (ls : List LineTree) (end : ℕ) → AllByRecursion (IsClearLine symbols) ls → Sentences [] (section_tokens ls end)
-  section_sentences ls end h =
-      let heading = heading_tokens 0 (codes "proof") in
+  section_sentences : (at : ℕ) (ls : List LineTree) (end : ℕ) → AllByRecursion (IsClearLine symbols) ls → Sentences [] (section_tokens at ls end)
+  section_sentences at ls end h =
+      let heading = heading_tokens at (codes "proof") in
       let inside = flat_map line_tokens ls in
-      let lines = lines_sentences heading ls h begin_sentence.ends in
-      then_sentences [] heading (inside ++ heading_tokens end (codes "end_of_proof")) begin_sentence
+      let begin = begin_sentence at in
+      let lines = lines_sentences heading ls h begin.ends in
+      then_sentences [] heading (inside ++ heading_tokens end (codes "end_of_proof")) begin
       (then_sentences heading inside (heading_tokens end (codes "end_of_proof")) lines (end_sentence (heading ++ inside) end lines.ends))
 
   -- no limit is passed at any token of a printed proof section
-  section_unpassed : (ls : List LineTree) (end : ℕ) → AllByRecursion (IsClearLine symbols) ls → first_passed (text_fault_at text_bounds symbols) (section_tokens ls end) ≡ None
-  section_unpassed ls end h = let s = section_sentences ls end h in walk_unpassed fault_at [] (section_tokens ls end) s.walk
+  section_unpassed : (at : ℕ) (ls : List LineTree) (end : ℕ) → AllByRecursion (IsClearLine symbols) ls → first_passed (text_fault_at text_bounds symbols) (section_tokens at ls end) ≡ None
+  section_unpassed at ls end h = let s = section_sentences at ls end h in walk_unpassed fault_at [] (section_tokens at ls end) s.walk
 
 -- ---- the law
 
 all_before : (ts : List Token) → before [] ts ≡ ts
 all_before ts = let none : length ts - 0 ≡ length ts = omega arith in ap (λ (n : ℕ). take n ts) none ∙ take-length ts
 
-judged_ok : (symbols : List Symbol) (lines : List Line) (bytes : List ℕ) (tokens : List Token) → tokens_behind 0 bytes ≡ tokens → alone (proof_section symbols tokens) ≡ Ok (lines, [])
-    → first_passed (text_fault_at text_bounds symbols) tokens ≡ None → judged_proof text_bounds symbols (length bytes) (tokens_behind 0 bytes) ≡ Ok (lines, [])
-judged_ok symbols lines bytes tokens t read unpassed =
+judged_ok : (symbols : List Symbol) (lines : List Line) (end : ℕ) (tokens : List Token) → alone (proof_section symbols tokens) ≡ Ok (lines, [])
+    → first_passed (text_fault_at text_bounds symbols) tokens ≡ None → judged_proof text_bounds symbols end tokens ≡ Ok (lines, [])
+judged_ok symbols lines end tokens read unpassed =
     let fault = text_fault_at text_bounds symbols in
-    ap (judged_proof text_bounds symbols (length bytes)) t
-    ∙ ap (judged fault (length bytes) tokens) read
+    ap (judged fault end tokens) read
     ∙ ap (λ (o : Option Place). elim o as (λ _. Result (List Line × List Token) Place) [ None ↦ Ok (lines, []) | Some p ↦ Err p ]) (ap (first_passed fault) (all_before tokens) ∙ unpassed)
 
--- a printed proof section is read back to its lines
-pub proof_back : (symbols : List Symbol) (lines : List Line) → IsPrintable symbols lines → proof_of symbols (proof_text symbols lines) 0 ≡ Ok lines
-proof_back symbols lines may =
-    let s = proof_spelt symbols lines may in
+-- a printed proof section that stands behind other bytes is read back to its lines
+pub proof_back_behind : (symbols : List Symbol) (lines : List Line) (front : List ℕ) → IsPrintable symbols lines → proof_of symbols (front ++ proof_text symbols lines) (length front) ≡ Ok lines
+proof_back_behind symbols lines front may =
+    let text = proof_text symbols lines in
+    let at = length front in
+    let bytes = front ++ text in
+    let s = proof_spelt symbols lines at may in
+    let tokens = from_byte at bytes ∙ ap (tokens_at at) (drop-append_seam front text) ∙ s.tokens in
     ap (λ (r : Result (List Line × List Token) Place). elim r as (λ _. Result (List Line) Place) [ Ok r ↦ Ok r.0 | Err p ↦ Err p ])
-    (judged_ok symbols lines (proof_text symbols lines) (section_tokens s.trees s.end) s.tokens s.read (section_unpassed symbols s.trees s.end s.clear))
+    (ap (judged_proof text_bounds symbols (length bytes)) tokens
+    ∙ judged_ok symbols lines (length bytes) (section_tokens at s.trees s.end) s.read (section_unpassed symbols at s.trees s.end s.clear))
+
+-- and so is one that stands alone
+pub proof_back : (symbols : List Symbol) (lines : List Line) → IsPrintable symbols lines → proof_of symbols (proof_text symbols lines) 0 ≡ Ok lines
+proof_back symbols lines may = proof_back_behind symbols lines [] may

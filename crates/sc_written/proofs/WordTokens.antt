@@ -1,5 +1,5 @@
 -- The tokens of a text whose first word, sign or white byte is known.
-use Rattle.std.proofs.Common.{◌≡◌, ◌∙◌, sym, ap, refl, ℕ, ◌+◌, Bool, true, false, List, [], ◌∷◌, ◌++◌, map, ◌||◌, not}
+use Rattle.std.proofs.Common.{◌≡◌, ◌∙◌, sym, ap, refl, ℕ, ◌+◌, Bool, true, false, List, [], ◌∷◌, ◌++◌, map, drop, ◌||◌, not}
 use Rattle.std.specs.Prelude.{◌&&◌, ◌==◌, if◌then◌else◌, codes}
 use Rattle.std.specs.List.{list_any, list_all}
 use Rattle.std.proofs.lemmas.Bool.{eqb-true}
@@ -16,9 +16,9 @@ use Rattle.sc_written.specs.Printable.{is_name_byte, is_name}
 pub tokens_at : ℕ → List ℕ → List Token
 tokens_at at bytes = map with_dollars_refused (tokens_from at (blanked false bytes))
 
-pub from_start : (bytes : List ℕ) → tokens_behind 0 bytes ≡ tokens_at 0 bytes
+pub from_byte : (at : ℕ) (bytes : List ℕ) → tokens_behind at bytes ≡ tokens_at at (drop at bytes)
 unfolding tokens_at
-from_start bytes = refl
+from_byte at bytes = refl
 
 -- ---- signs and white space
 

@@ -3,8 +3,9 @@
 //! refused (`TextWords`, `TextPosition`, `TextLimits`, `ProofGrammar`, `ProofReading`).
 //!
 //! `proofs/` has worked examples and the law of the round trip: printable lines (`Printable`) are read back from the
-//! text that they are printed as (`RoundTrip.proof_back`). Its parts are that the tokens of each printed piece are those
-//! of a tree (`TermSpelling` up to `ProofSpelling`), that the productions read that tree back (`ClauseBack`,
-//! `NumberBack`), and that no limit is passed at any token (`Passing`, `ClauseClear`, `TermClear`, `StepClear`). There
-//! is no code here.
+//! text that they are printed as (`RoundTrip.proof_back`, and behind other bytes `proof_back_behind`). The symbols of
+//! every problem that is read are such as that asks (`ProblemNames`). The parts of the law: the tokens of each printed
+//! piece are those of a tree (`TermSpelling` up to `ProofSpelling`), the productions read that tree back (`ClauseBack`,
+//! `NumberBack`), and no limit is passed at any token (`Passing`, `ClauseClear`, `TermClear`, `StepClear`). There is no
+//! code here.
 #![tactic(auto)]
