@@ -1,4 +1,4 @@
-//! Readers of the productions of a problem, from tokens: clauses and items. Each answers exactly what the
+//! Readers of the productions of a problem, from tokens: sides, clauses and items. Each answers exactly what the
 //! definition of its name in `sc_reading` gives: a value and the tokens behind it, or with how many tokens left it
 //! fails, and why (`Stop`). Want of memory alone is free.
 //!
@@ -20,3 +20,4 @@ mod words;
 
 pub use clause::read_clause;
 pub use item::{Item, Name, read_item, read_items, read_problem};
+pub use side::read_side;

@@ -95,7 +95,7 @@ repeated-end ends one (suc n) h ts =
 
 -- ---- clauses
 
-bracketed-end : {A : Type 0} (inside : List Token → Read A) → LeavesEnd inside → LeavesEnd (bracketed inside)
+pub bracketed-end : {A : Type 0} (inside : List Token → Read A) → LeavesEnd inside → LeavesEnd (bracketed inside)
 bracketed-end inside h ts =
     in_turn ts (the_sign Open ts) _ (the_sign-end Open ts) (λ o e.
     in_turn ts (inside o.1) _ (behind inside ts o.1 h e) (λ v e'.
@@ -111,7 +111,7 @@ side_within-end (suc n) ts =
     in_turn ts (arguments (separated Comma (side_within n) n) name.1) _
     (behind (arguments (separated Comma (side_within n) n)) ts name.1 (arguments-end (separated Comma (side_within n) n) (separated-end Comma (side_within n) n (side_within-end n))) e) (λ args e'. e'))
 
-side-end : LeavesEnd side
+pub side-end : LeavesEnd side
 side-end ts = side_within-end (length ts) ts
 
 right_of-end : (left : Side) → LeavesEnd (right_of left)

@@ -13,19 +13,22 @@ use Rattle.sc_reading.specs.WellFormed.{IsProblem}
 use Rattle.sc_scan.specs.Told.{failure_of}
 use Rattle.sc_grammar.specs.Items.{clipped_items}
 use Rattle.sc_input.specs.declared.refusal.InputError.{InputError}
+use Rattle.sc_input.specs.declared.refusal.InputError.TheVariants.{Refused}
 use Rattle.sc_input.specs.Refusal.{Refuses}
-use Rattle.sc_input.specs.Answer.{production, first_byte, read_at, fails_at, answer, told, judged_at, Tells}
+use Rattle.sc_input.specs.Answer.{production, first_byte, read_at, fault_at, answer, told, judged_at, Tells}
 use Rattle.sc_input.proofs.Judging.{few_left, answer_fails, judged_unlimited, judged_limited}
 use Rattle.sc_input.proofs.Stating.{problem_stated, items_stated, problem_refused, items_refused}
 
-pub on_ok : {X : Type 0} (view : X → List Item × ℕ) (res : Result X InputError) (behind : Result ℕ Place) (r : Read (List Item)) (is : List Item) (left : List Token)
-    → r ≡ Ok (is, left) → Tells view res (read_at is (first_byte behind left)) → Tells view res (answer behind r)
-on_ok view res behind r is left e h = subst (Tells view res) (sym (ap (answer behind) e)) h
+pub on_ok : {X A : Type 0} (view : X → A × ℕ) (res : Result X InputError) (behind : Result ℕ Place) (r : Read A) (a : A) (left : List Token)
+    → r ≡ Ok (a, left) → Tells view res (read_at a (first_byte behind left)) → Tells view res (answer behind r)
+on_ok view res behind r a left e h = subst (Tells view res) (sym (ap (answer behind) e)) h
 
 pub on_failure : (err : InputError) (behind : Result ℕ Place) (before_section : Bool) (ts : List Token) (n : ℕ) (kind : InputKind)
-    → failure_of (clipped_items (production before_section ts)) ≡ Some (n, kind) → Refuses err (fails_at kind (first_byte behind (drop (length ts - n) ts)))
+    → failure_of (clipped_items (production before_section ts)) ≡ Some (n, kind) → err ≡ Refused (fault_at kind (first_byte behind (drop (length ts - n) ts)))
     → Refuses err (answer behind (clipped_items (production before_section ts)))
-on_failure err behind before_section ts n kind e h = subst (Refuses err) (sym (answer_fails before_section ts n kind behind e)) h
+on_failure err behind before_section ts n kind e h =
+    let told = answer_fails before_section ts n kind behind e in
+    subst (λ err. Refuses err (answer behind (clipped_items (production before_section ts)))) (sym h) told
 
 pub on_unlimited : {X : Type 0} (view : X → List Item × ℕ) (res : Result X InputError) (before_section : Bool) (end : ℕ) (ts : List Token)
     → first_passed (problem_fault_at problem_bounds) ts ≡ None → Tells view res (answer (Ok end) (clipped_items (production before_section ts)))

@@ -4,7 +4,7 @@ use Rattle.sc_reading.specs.declared.fault.InputKind.{InputKind}
 use Rattle.sc_reading.specs.declared.fault.Place.{Place}
 use Rattle.sc_reading.specs.declared.token.Token.{Token}
 use Rattle.sc_reading.specs.Token.{at_of}
-use Rattle.sc_reading.specs.Reader.{Read}
+use Rattle.sc_reading.specs.Reader.{Read, ◌>>=◌}
 use Rattle.sc_reading.specs.ProblemGrammar.{Item, problem, items}
 use Rattle.sc_reading.specs.ProblemLimits.{problem_bounds}
 use Rattle.sc_reading.specs.Faults.{place, place_of}
@@ -24,25 +24,33 @@ abbrev pub first_byte : Result ℕ Place → List Token → Result ℕ Place
 first_byte behind [] = behind
 first_byte behind (t ∷ tokens) = Ok (at_of t)
 
--- items, and the byte behind them
-abbrev pub read_at : List Item → Result ℕ Place → Result (List Item × ℕ) Place
-read_at is (Ok at) = Ok (is, at)
-read_at is (Err p) = Err p
+-- a value, and the byte behind it
+abbrev pub read_at : {A : Type 0} → A → Result ℕ Place → Result (A × ℕ) Place
+read_at a (Ok at) = Ok (a, at)
+read_at a (Err p) = Err p
 
 -- a fault of that kind at the byte
-abbrev pub fails_at : InputKind → Result ℕ Place → Result (List Item × ℕ) Place
-fails_at kind (Ok at) = Err (place at kind)
-fails_at kind (Err p) = Err p
+abbrev pub fault_at : InputKind → Result ℕ Place → Place
+fault_at kind (Ok at) = place at kind
+fault_at kind (Err p) = p
 
 -- what was read, with what stands behind the tokens
-abbrev pub answer : Result ℕ Place → Read (List Item) → Result (List Item × ℕ) Place
+abbrev pub answer : {A : Type 0} → Result ℕ Place → Read A → Result (A × ℕ) Place
 answer behind (Ok r) = read_at r.0 (first_byte behind r.1)
-answer behind (Err f) = fails_at f.kind (first_byte behind f.left)
+answer behind (Err f) = Err (fault_at f.kind (first_byte behind f.left))
 
--- what was judged: the items with their numbers clipped, and the byte behind them
+-- what is read, seen by view
+abbrev pub seen : {A B : Type 0} → (A → B) → Read A → Read B
+seen view read = read >>= λ r. Ok (view r.0, r.1)
+
+-- what was judged: the value, seen by view, and the byte behind it
+abbrev pub told_by : {A B : Type 0} → (A → B) → ℕ → Result (A × List Token) Place → Result (B × ℕ) Place
+told_by view end (Ok r) = Ok (view r.0, place_of end r.1)
+told_by view end (Err p) = Err p
+
+-- the same of items, their numbers clipped
 abbrev pub told : ℕ → Result (List Item × List Token) Place → Result (List Item × ℕ) Place
-told end (Ok r) = Ok (map with_clipped r.0, place_of end r.1)
-told end (Err p) = Err p
+told end judgement = told_by (map with_clipped) end judgement
 
 -- the same of bytes
 abbrev pub judged_at : Bool → List ℕ → Result (List Item × ℕ) Place

@@ -6,6 +6,10 @@
 //! further than the first limit that is passed, so that no recursion is deeper than the limit on depth; from what was
 //! written the value is made (sc_problem). A `Problem` keeps what the language says of every problem (`IsProblem`).
 //! Time and memory are in proportion to the bytes.
+//!
+//! `first_byte`, `last_tokens` and `fault_at` make the answer from what a production reads of the tokens up to the first
+//! limit. Readers of other texts join their limits and productions by them too: the laws (`proofs/Judging`) hold of
+//! every production whose reading is decided by the first tokens.
 #![tactic(auto)]
 
 mod read;
@@ -13,7 +17,7 @@ mod refusal;
 #[cfg(test)]
 mod tests;
 
-pub use read::{Items, read_items, read_problem};
+pub use read::{Items, fault_at, first_byte, last_tokens, read_items, read_problem};
 pub use refusal::InputError;
 pub use sc_problem::Problem;
 pub use sc_reading::{Flags, Home, InputKind, Params, Place};

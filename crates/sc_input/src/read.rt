@@ -7,6 +7,7 @@ ghost use Rattle.sc_reading.specs.ProblemLimits.{problem_bounds, problem_fault_a
 ghost use Rattle.sc_reading.specs.Reading.{problem_of, items_of};
 ghost use Rattle.sc_scan.specs.Told.{Gives};
 ghost use Rattle.sc_grammar.specs.Items as grammar;
+ghost use Rattle.sc_input.specs.declared.refusal.InputError.TheVariants.{Refused};
 ghost use Rattle.sc_input.specs.Refusal.{Refuses};
 ghost use Rattle.sc_input.specs.Answer as spec;
 ghost use Rattle.sc_input.specs.Answer.{Tells};
@@ -38,8 +39,9 @@ fn at_of(token: &Token) -> u64
     }
 }
 
-/// Where the first of the tokens left begins; where none is left, what stands behind them.
-fn first_byte(behind: Result<u64, Place>, tokens: &[Token]) -> Result<u64, Place>
+/// Where the first of the tokens left begins; where none is left, what stands behind them: the byte at which the text
+/// ends, or the limit that the last of them passes.
+pub fn first_byte(behind: Result<u64, Place>, tokens: &[Token]) -> Result<u64, Place>
     ensures { result ≡ spec.first_byte behind tokens.now }
 {
     match tokens {
@@ -57,8 +59,9 @@ fn items_at(items: List<Item>, at: Result<u64, Place>) -> Result<(List<Item>, u6
     }
 }
 
-fn fault_at(kind: InputKind, at: Result<u64, Place>) -> InputError
-    ensures { Refuses result (spec.fails_at kind at) }
+/// A fault of that kind at the byte; the limit, where the byte stands behind one that is passed.
+pub fn fault_at(kind: InputKind, at: Result<u64, Place>) -> InputError
+    ensures { result ≡ Refused (spec.fault_at kind at) }
 {
     match at {
         Ok(at) => InputError::Refused(Place { at, kind }),
@@ -67,7 +70,7 @@ fn fault_at(kind: InputKind, at: Result<u64, Place>) -> InputError
 }
 
 /// The last tokens, so many of them.
-fn last_tokens(tokens: &[Token], count: usize) -> &[Token]
+pub fn last_tokens(tokens: &[Token], count: usize) -> &[Token]
     requires { count ≤ length tokens.now }
     ensures { result.now ≡ drop (length tokens.now - count) tokens.now }
 {

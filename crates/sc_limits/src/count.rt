@@ -56,7 +56,8 @@ pub struct ClauseCount {
     pub commas: Items<u8>,
 }
 
-fn is_equality(token: &Token) -> bool
+/// Whether the token is `=` or `!=`.
+pub fn is_equality(token: &Token) -> bool
     ensures { result ≡ grammar.is_equality token.now }
 {
     match token {
@@ -236,7 +237,8 @@ fn one_more(count: u8) -> u8
     }
 }
 
-fn last_at(tokens: &[Token]) -> Option<u64>
+/// Where the last of the tokens begins.
+pub fn last_at(tokens: &[Token]) -> Option<u64>
     ensures { result ≡ limit.last_at tokens.now }
 {
     match tokens {

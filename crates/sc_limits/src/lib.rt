@@ -21,7 +21,10 @@ mod range;
 mod reached;
 mod symbols;
 
+pub use count::{ClauseCount, is_equality, last_at};
 pub use first::{Passed, first_limit};
+pub use position::between;
+pub use range::{capped_value, is_numeral};
 
 #[cfg(test)]
 mod tests;

@@ -22,7 +22,8 @@ const MOST_DIGITS: usize = 10;
 /// Within how many tokens the number of an item stands, as in `assign`, `(`, a name, `,`, `-`, digits.
 const NUMBER_WITHIN: usize = 6;
 
-fn is_numeral(text: &[u8]) -> bool
+/// Whether the text is of digits alone.
+pub fn is_numeral(text: &[u8]) -> bool
     ensures { result ≡ list_all is_digit text.now }
 {
     text.iter().all(|b| b'0' <= *b && *b <= b'9')
@@ -37,8 +38,8 @@ fn with_digit(value: u64, digit: u8) -> u64
     (value * 10 + (digit - b'0') as u64).min(CAP)
 }
 
-/// What the digits write, up to the cap.
-fn capped_value(digits: &[u8]) -> u64
+/// What the digits write, up to 10,000,000,000.
+pub fn capped_value(digits: &[u8]) -> u64
     requires { list_all is_digit digits.now ≡ true }
     ensures { result ≡ min (digits_value 10 digits.now) CAP }
 {

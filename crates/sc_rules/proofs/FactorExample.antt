@@ -18,6 +18,7 @@ use Rattle.sc_rules.specs.Resolution.{IsFactor, AreFactorSites}
 use Rattle.sc_data.proofs.TermSteps.{under-Var, under-App, variables-Var, variables-App}
 use Rattle.sc_rules.proofs.Enumerations.{numbered_two}
 use Rattle.sc_rules.proofs.PairLaws.{first_unifying}
+pub use Rattle.sc_rules.proofs.PairLaws.{one_pair}
 use Rattle.sc_data.specs.declared.Line.{Line}
 use Rattle.sc_data.specs.Clause.{instance, width}
 use Rattle.sc_data.specs.Refuted.{Atom}

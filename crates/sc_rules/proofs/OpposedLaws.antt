@@ -3,6 +3,7 @@ use Rattle.std.proofs.Common.{◌≡◌, ◌∙◌, sym, ap, subst, ℕ, ◌+◌
 use Rattle.sc_data.specs.declared.Literal.{Literal}
 use Rattle.sc_data.specs.declared.Clause.{Clause}
 use Rattle.sc_data.specs.declared.Numbered.{Numbered}
+use Rattle.sc_data.specs.declared.Pair.{Pair}
 use Rattle.sc_data.specs.Refuted.{Atom}
 use Rattle.sc_data.specs.declared.Term.{Var}
 use Rattle.sc_data.specs.Clause.{width}
@@ -12,23 +13,24 @@ use Rattle.sc_steps.specs.declared.derivation.Derived.{Derived}
 use Rattle.sc_rules.specs.Pairing.{literal_at, ArePairs, places_in, HaveOppositeSigns}
 use Rattle.sc_rules.specs.Conflict.{Conflicts}
 use Rattle.sc_rules.proofs.Enumerations.{numbered_one}
-use Rattle.sc_rules.proofs.SiteLaws.{AreOpposed, pair_of, one_pair}
+use Rattle.sc_rules.proofs.PairLaws.{one_pair}
+use Rattle.sc_rules.proofs.SiteLaws.{AreOpposed, pair_of}
 
 -- units that conflict have opposite signs and unify
 pub conflict_opposed : (n m : Numbered) (made : Derived) → Conflicts n m made → AreOpposed n m 1 1
 conflict_opposed n m made h = record {
-  left = pair.0;
-  right = pair.1;
-  left_there = pair.3;
-  right_there = pair.4;
-  signs = subst HaveOppositeSigns pair.2 h.signs 0 (pair_of pair.0 pair.1) (omega arith);
-  unify = subst Unify pair.2 (h.concludes.joint.0, h.concludes.joint.1.unifies);
+  left = (pair.0).left;
+  right = (pair.0).right;
+  left_there = pair.2;
+  right_there = pair.3;
+  signs = subst HaveOppositeSigns pair.1 h.signs 0 pair.0 (omega arith);
+  unify = subst Unify pair.1 (h.concludes.joint.0, h.concludes.joint.1.unifies);
 }
   where
     clauses : List Clause
     clauses = apart (n.clause ∷ m.clause ∷ [])
 
-    pair : (l : Literal) × (r : Literal) × (h.inference.pairs ≡ pair_of l r ∷ []) × (literal_at clauses (record { parent = 1; lit = 1 }) ≡ Some l) × (literal_at clauses (record { parent = 2; lit = 1 }) ≡ Some r)
+    pair : (p : Pair) × (h.inference.pairs ≡ p ∷ []) × (literal_at clauses (record { parent = 1; lit = 1 }) ≡ Some p.left) × (literal_at clauses (record { parent = 2; lit = 1 }) ≡ Some p.right)
     pair = one_pair clauses (record { parent = 1; lit = 1 }) (record { parent = 2; lit = 1 }) h.inference.pairs
         (subst (λ (ps : List Numbered). ArePairs (apart (map (λ (q : Numbered). q.clause) ps)) (places_in 1 (1 ∷ [])) (places_in 2 (1 ∷ [])) h.inference.pairs) h.parents h.pairs)
 

@@ -26,6 +26,12 @@ opposite_two pair next h i = all_of_two (λ (q : Pair). q.left.positive ≡ not 
 
 -- ---- taken apart
 
+-- the one pair of two places
+pub one_pair : (cs : List Clause) (m n : Place) (ps : List Pair) → ArePairs cs (m ∷ []) (n ∷ []) ps
+    → (pair : Pair) × (ps ≡ pair ∷ []) × (literal_at cs m ≡ Some pair.left) × (literal_at cs n ≡ Some pair.right)
+one_pair cs m n [] h = absurd h
+one_pair cs m n (pair ∷ rest) h = (pair, (λ i. pair ∷ h.2 i), h.0, h.1)
+
 -- the literals at two places can be made equal, but for their signs
 pub record AreUnifying (cs : List Clause) (m n : Place) : Type 0 where
   pub left : Literal

@@ -14,9 +14,9 @@ use Rattle.sc_data.specs.declared.Numbered.{Numbered}
 use Rattle.sc_reading.specs.declared.settings.Home.TheVariants.{Usable}
 use Rattle.sc_rules.specs.declared.fate.Fate.TheVariants.{Kept}
 use Rattle.sc_rules.specs.declared.fate.Processed.{Processed}
-use Rattle.sc_rules.specs.Order.{IsBefore, AreInOrder, ends, goes, by_number}
-use Rattle.sc_rules.specs.Subsumption.{Subsumes, IsTautology}
-use Rattle.sc_rules.specs.Rewriting.{RewritesOnce}
+use Rattle.sc_rules.specs.Order.{IsBefore, AreInOrder, ends, goes}
+use Rattle.sc_subsume.specs.Subsumption.{Subsumes, IsTautology}
+use Rattle.sc_rules.specs.Rewriting.{number_of, RewritesOnce}
 use Rattle.sc_rules.specs.Simplification.{Simplifies, MergesOnce, IsRepeated}
 use Rattle.sc_rules.specs.Book.{Book, live}
 use Rattle.sc_rules.specs.Processing.{Processes, Sweeps, IsRival, with_kept}
@@ -153,10 +153,10 @@ subsumes_second = record { terms = []; each = each; no_longer = omega arith }
 abbrev IsGone : Numbered → Type 0
 IsGone p = Contains (one ∷ two ∷ three ∷ []) p × (p.number ≢ 3) × Subsumes only_q p.clause
 
-others : AreInOrder by_number IsGone (one ∷ two ∷ [])
+others : AreInOrder number_of IsGone (one ∷ two ∷ [])
 others = record { rising = rising; only = only; all = all }
   where
-    rising : AllPairs (λ x y. IsBefore (by_number x) (by_number y)) (one ∷ two ∷ [])
+    rising : AllPairs (λ x y. IsBefore (number_of x) (number_of y)) (one ∷ two ∷ [])
     rising zero zero d less within = absurd (omega arith)
     rising zero (suc zero) d less within = inl (omega arith)
     rising i (suc (suc j)) d less within = absurd (omega arith)

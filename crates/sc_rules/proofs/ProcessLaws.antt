@@ -11,13 +11,13 @@ use Rattle.sc_steps.specs.declared.derivation.Derived.{Derived}
 use Rattle.sc_rules.specs.declared.fate.Fate.{Fate}
 use Rattle.sc_rules.specs.declared.fate.Fate.TheVariants.{Kept, Taut, Heavy, Long, Subsumed}
 use Rattle.sc_rules.specs.declared.fate.Processed.{Processed}
-use Rattle.sc_rules.specs.Order.{Where, With, IsLeast, by_number}
+use Rattle.sc_rules.specs.Order.{Where, With, IsLeast}
 use Rattle.sc_data.specs.JointInstance.{apart}
 use Rattle.sc_rules.specs.Inference.{Inference, Concludes, parent_clauses}
 use Rattle.sc_rules.specs.Pairing.{Place, literal_at, ArePairs, places_in}
 use Rattle.sc_rules.specs.Conflict.{Conflicts}
-use Rattle.sc_rules.specs.Subsumption.{Subsumes}
-use Rattle.sc_rules.specs.Rewriting.{HasRedex, BecomesDemodulator, IsDemodulator}
+use Rattle.sc_subsume.specs.Subsumption.{Subsumes}
+use Rattle.sc_rules.specs.Rewriting.{number_of, HasRedex, BecomesDemodulator, IsDemodulator}
 use Rattle.sc_rules.specs.Book.{Book, IsSound, numbered_clauses, live, next_number, with_derived, with_deleted}
 use Rattle.sc_rules.specs.Processing.{Drops, with_kept, IsRival, AreOthers, with_demodulator, Sweeps, Keeps, MeetsFate, ProcessingIsOne}
 use Rattle.sc_steps.specs.Derivation.{last_clause}
@@ -103,8 +103,8 @@ module _ (problem : Stated) (old : Book) (sound : IsSound problem old) where
       by (inl k) = first (in_either m old.usable (old.sos ++ kept_one c ∷ []) k)
       by (inr k) = in_second m (old.usable ++ old.sos) old.passive k
 
-  rival_one : (c : Clause) (lines : List Line) (turn : ℕ) (x y : Numbered) → IsLeast by_number (IsRival (kept_one c)) (live (with_kept problem old c lines turn)) x
-      → IsLeast by_number (IsRival (kept_one c)) (live (with_kept problem old c lines turn)) y → x ≡ y
+  rival_one : (c : Clause) (lines : List Line) (turn : ℕ) (x y : Numbered) → IsLeast number_of (IsRival (kept_one c)) (live (with_kept problem old c lines turn)) x
+      → IsLeast number_of (IsRival (kept_one c)) (live (with_kept problem old c lines turn)) y → x ≡ y
   rival_one c lines turn x y h k =
       live_tell problem old sound x y (was_live c lines turn x h.holds.0 h.listed) (was_live c lines turn y k.holds.0 k.listed) (by (compared x.number y.number))
     where
@@ -114,7 +114,7 @@ module _ (problem : Stated) (old : Book) (sound : IsSound problem old) where
       by (inr (inr less)) = absurd (h.least y k.listed k.holds (inl less))
 
 others_one : (book : Book) (n : Numbered) (Q : Clause → Type 0) (ps qs : List Numbered) → AreOthers book n Q ps → AreOthers book n Q qs → ps ≡ qs
-others_one book n Q ps qs h k = in_order_is_one by_number (λ p. Contains (book.usable ++ book.sos) p × (p.number ≢ n.number) × Q p.clause) ps qs h k
+others_one book n Q ps qs h k = in_order_is_one number_of (λ p. Contains (book.usable ++ book.sos) p × (p.number ≢ n.number) × Q p.clause) ps qs h k
 
 abbrev pub Becomes : Stated → Book → Numbered → Book → List Numbered → List Numbered → Type 0
 Becomes problem old n new subsumed rewritten =
@@ -160,7 +160,7 @@ keeps_one problem old sound c lines turn new other out another (inl h) (inl k) =
     (h.1.4 ∙ ap (λ (d : Derived). with_derived (with_kept problem old c lines turn) d.clause d.lines) made ∙ sym k.1.4, h.1.5 ∙ sym k.1.5)
 
 subsumed_one : (problem : Stated) (old : Book) → IsSound problem old → (c : Clause) (new other : Book) (out another : Processed) (x y : Numbered)
-    → IsLeast by_number (λ p. Subsumes p.clause c) (live old) x → IsLeast by_number (λ p. Subsumes p.clause c) (live old) y
+    → IsLeast number_of (λ p. Subsumes p.clause c) (live old) x → IsLeast number_of (λ p. Subsumes p.clause c) (live old) y
     → Drops old new out (Subsumed x.number) → Drops old other another (Subsumed y.number) → (new ≡ other) × (out ≡ another)
 subsumed_one problem old sound c new other out another x y h k drop drop2 =
     let e : x ≡ y = least_one (λ p. Subsumes p.clause c) (live old) x y (live_tell problem old sound) h k in

@@ -17,8 +17,8 @@ use Rattle.sc_data.specs.Numbering.{numbered}
 use Rattle.sc_data.proofs.TermLaws.{width-Var, width-App, instance-Var, instance-App, weight-App, depth-App, fold-Var, App-injective}
 use Rattle.sc_data.specs.declared.Numbered.{Numbered}
 use Rattle.sc_rules.specs.Derivation.{Adds, AddsPart, AreTermsTo}
-use Rattle.sc_rules.specs.Rewriting.{IsEquation, Fits, IsRedex, IsBeforeInPostOrder, IsFirstRedex, RewritesOnce}
-use Rattle.sc_rules.specs.Order.{IsBefore, by_number}
+use Rattle.sc_rules.specs.Rewriting.{number_of, IsEquation, Fits, IsRedex, IsBeforeInPostOrder, IsFirstRedex, RewritesOnce}
+use Rattle.sc_rules.specs.Order.{IsBefore}
 use Rattle.sc_data.proofs.TermSteps.{variables-Var, variables-App}
 use Rattle.sc_rules.proofs.Enumerations.{numbered_none, numbered_two}
 use Rattle.sc_rules.proofs.DerivationCases.{adds_input, adds_instance, terms_of_one}
@@ -205,6 +205,6 @@ rewritten = record {
   result_within = record { light = simp weight-App (omega arith); shallow = simp depth-App (omega arith) };
 }
   where
-    alone : (d : Numbered) → Contains (demodulator ∷ []) d → Fits d (f e a) → ¬ IsBefore (by_number d) (by_number demodulator)
-    alone d (zero, within, same) h less = not_before_itself (by_number d) (subst (λ q. IsBefore (by_number d) (by_number q)) same less)
+    alone : (d : Numbered) → Contains (demodulator ∷ []) d → Fits d (f e a) → ¬ IsBefore (number_of d) (number_of demodulator)
+    alone d (zero, within, same) h less = not_before_itself (number_of d) (subst (λ q. IsBefore (number_of d) (number_of q)) same less)
     alone d (suc k, within, same) h less = omega arith

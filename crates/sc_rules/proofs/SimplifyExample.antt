@@ -15,9 +15,9 @@ use Rattle.sc_data.specs.Clause.{instance, width}
 use Rattle.sc_data.specs.Refuted.{equation, Atom}
 use Rattle.sc_data.proofs.TermLaws.{fold-Var, weight-App, width-Var, instance-Var}
 use Rattle.sc_data.proofs.TermSteps.{variables-Var, variables-App}
-use Rattle.sc_rules.specs.Order.{IsBefore, Exhausts, ends, goes, by_number}
+use Rattle.sc_rules.specs.Order.{IsBefore, Exhausts, ends, goes}
 use Rattle.sc_rules.specs.Derivation.{AddsPart}
-use Rattle.sc_rules.specs.Rewriting.{IsEquation, BecomesDemodulator}
+use Rattle.sc_rules.specs.Rewriting.{number_of, IsEquation, BecomesDemodulator}
 use Rattle.sc_rules.specs.Simplification.{IsUphill, Orients, Removes, IsRemovable, DeletesOnce}
 use Rattle.sc_rules.proofs.Enumerations.{in_one, numbered_one}
 use Rattle.sc_rules.proofs.DerivationCases.{adds_input, adds_instance, terms_of_one}
@@ -126,8 +126,8 @@ deleted = record {
     none_before zero less h = h
     none_before (suc n) less h = omega (arith, less)
 
-    alone : (d : Numbered) → Contains (cutter ∷ []) d → Removes (p true a) d → ¬ IsBefore (by_number d) (by_number cutter)
-    alone d listed h less = not_before_itself (by_number d) (subst (λ w. IsBefore (by_number d) (by_number w)) (in_one cutter d listed) less)
+    alone : (d : Numbered) → Contains (cutter ∷ []) d → Removes (p true a) d → ¬ IsBefore (number_of d) (number_of cutter)
+    alone d listed h less = not_before_itself (number_of d) (subst (λ w. IsBefore (number_of d) (number_of w)) (in_one cutter d listed) less)
 
 -- q stays
 stays : (u : Numbered) → Contains (cutter ∷ []) u → ¬ Removes q u

@@ -17,10 +17,10 @@ use Rattle.sc_data.specs.Path.{IsSubtermAt}
 use Rattle.sc_data.proofs.TermLaws.{App-injective}
 use Rattle.sc_reading.specs.declared.settings.Flags.{Flags}
 use Rattle.sc_data.specs.declared.Numbered.{Numbered}
-use Rattle.sc_rules.specs.Order.{Where, With, IsLeast, Exhausts, ExhaustsWithin, ends, goes, limit, by_number}
+use Rattle.sc_rules.specs.Order.{Where, With, IsLeast, Exhausts, ExhaustsWithin, ends, goes, limit}
 use Rattle.sc_steps.specs.Derivation.{last_clause}
 use Rattle.sc_rules.specs.Derivation.{Adds, AddsPart, EndsCanonical}
-use Rattle.sc_rules.specs.Rewriting.{IsEquation, Fits, IsRedex, IsBeforeInPostOrder, IsFirstRedex, IsDemodulator, RewritesOnce}
+use Rattle.sc_rules.specs.Rewriting.{number_of, IsEquation, Fits, IsRedex, IsBeforeInPostOrder, IsFirstRedex, IsDemodulator, RewritesOnce}
 use Rattle.sc_rules.specs.Simplification.{IsUphill, Orients, Removes, IsRemovable, DeletesOnce, IsRepeated, MergesOnce, Simplifies}
 use Rattle.sc_data.proofs.SubstitutionLaws.{term_laws}
 use Rattle.sc_rules.proofs.StepLaws.{some_both, same_some, adds_one}
@@ -32,7 +32,7 @@ use Rattle.sc_rules.proofs.DerivationLaws.{compared, part_one, canonical_one, at
 abbrev pub NumbersTell : List Numbered → Type 0
 NumbersTell ps = (x y : Numbered) → Contains ps x → Contains ps y → x.number ≡ y.number → x ≡ y
 
-pub least_one : (P : Numbered → Type 0) (ps : List Numbered) (x y : Numbered) → NumbersTell ps → IsLeast by_number P ps x → IsLeast by_number P ps y → x ≡ y
+pub least_one : (P : Numbered → Type 0) (ps : List Numbered) (x y : Numbered) → NumbersTell ps → IsLeast number_of P ps x → IsLeast number_of P ps y → x ≡ y
 least_one P ps x y tell h k = tell x y h.listed k.listed (by (compared x.number y.number))
   where
     by : (x.number < y.number) ⊎ (x.number ≡ y.number) ⊎ (y.number < x.number) → x.number ≡ y.number
@@ -99,7 +99,7 @@ deletes_once_one units tell before after others h k =
     (λ b less r. h.first b less (subst (λ (c : Clause). IsRemovable units c b) (sym c) r)) k.first in
     let l : h.literal ≡ k.literal = same_some (numbered k.clause.literals k.a) h.literal k.literal
     (subst (λ (n : ℕ). numbered k.clause.literals n ≡ Some h.literal) a (subst (λ (c : Clause). numbered c.literals h.a ≡ Some h.literal) c h.literal_there)) k.literal_there in
-    let u : h.removing ≡ k.removing = least_one (Removes k.literal) units h.removing k.removing tell (subst (λ (l : Literal). IsLeast by_number (Removes l) units h.removing) l h.least) k.least in
+    let u : h.removing ≡ k.removing = least_one (Removes k.literal) units h.removing k.removing tell (subst (λ (l : Literal). IsLeast number_of (Removes l) units h.removing) l h.least) k.least in
     let part = part_one before k.removing (negated k.literal) h.mid k.mid h.k k.k
     (subst (λ (l : Literal). AddsPart before k.removing (negated l) h.mid h.k) l (subst (λ (q : Numbered). AddsPart before q (negated h.literal) h.mid h.k) u h.shows)) k.shows in
     adds_one k.mid (Resolve (length before) k.a k.k 1) after others
@@ -182,7 +182,7 @@ rewrites_once_one demods tell are before after others h k =
     let c : h.clause ≡ k.clause = same_some (last_clause before) h.clause k.clause h.clause_last k.clause_last in
     let at_first = first_redex_one demods k.clause h.b k.b h.path k.path h.redex k.redex (subst (λ (c : Clause). IsFirstRedex demods c h.b h.path h.redex) c h.first) k.first in
     let d : h.demodulator ≡ k.demodulator = least_one (λ d. Fits d k.redex) demods h.demodulator k.demodulator tell
-    (subst (λ (t : Term). IsLeast by_number (λ d. Fits d t) demods h.demodulator) at_first.2 h.least) k.least in
+    (subst (λ (t : Term). IsLeast number_of (λ d. Fits d t) demods h.demodulator) at_first.2 h.least) k.least in
     let value_h : IsEquation (instance h.terms k.demodulator.clause) k.redex h.value =
     subst (λ (t : Term). IsEquation (instance h.terms k.demodulator.clause) t h.value) at_first.2
     (subst (λ (q : Numbered). IsEquation (instance h.terms q.clause) h.redex h.value) d h.is_value) in

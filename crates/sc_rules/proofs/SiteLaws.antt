@@ -12,17 +12,11 @@ use Rattle.sc_rules.specs.Pairing.{Place, literal_at, ArePairs, places_in, HaveO
 use Rattle.sc_rules.specs.Inference.{Inference, Resolving, Merging}
 use Rattle.sc_rules.specs.Resolution.{IsBinary, IsFactor}
 use Rattle.sc_rules.proofs.Enumerations.{all_of_one}
-use Rattle.sc_rules.proofs.PairLaws.{opposite_one}
+use Rattle.sc_rules.proofs.PairLaws.{opposite_one, one_pair}
 use Rattle.sc_rules.proofs.SimplifyLaws.{NumbersTell}
 
 abbrev pub pair_of : Literal → Literal → Pair
 pair_of l m = record { left = l; right = m }
-
--- the one pair of two places
-pub one_pair : (cs : List Clause) (m n : Place) (ps : List Pair) → ArePairs cs (m ∷ []) (n ∷ []) ps
-    → (l : Literal) × (r : Literal) × (ps ≡ pair_of l r ∷ []) × (literal_at cs m ≡ Some l) × (literal_at cs n ≡ Some r)
-one_pair cs m n [] h = absurd h
-one_pair cs m n (p ∷ ps) h = (p.left, p.right, (λ i. p ∷ h.2 i), h.0, h.1)
 
 -- ---- binary resolution
 
@@ -58,19 +52,19 @@ binary_if given usable partner a b listed h = (
 -- and only then
 pub binary_opposed : (given : Numbered) (usable : List Numbered) (site : BinarySite) (i : Inference) (h : IsBinary given usable site i) → AreOpposed given h.partner site.given_lit site.partner_lit
 binary_opposed given usable site i h = record {
-  left = pair.0;
-  right = pair.1;
-  left_there = pair.3;
-  right_there = pair.4;
-  signs = subst HaveOppositeSigns pair.2 h.signs 0 (pair_of pair.0 pair.1) (omega arith);
-  unify = subst Unify pair.2 h.unify;
+  left = (pair.0).left;
+  right = (pair.0).right;
+  left_there = pair.2;
+  right_there = pair.3;
+  signs = subst HaveOppositeSigns pair.1 h.signs 0 pair.0 (omega arith);
+  unify = subst Unify pair.1 h.unify;
 }
   where
     clauses : List Clause
     clauses = apart (given.clause ∷ (h.partner).clause ∷ [])
 
-    pair : (l : Literal) × (r : Literal) × (i.pairs ≡ pair_of l r ∷ []) × (literal_at clauses (record { parent = 1; lit = site.given_lit }) ≡ Some l)
-        × (literal_at clauses (record { parent = 2; lit = site.partner_lit }) ≡ Some r)
+    pair : (p : Pair) × (i.pairs ≡ p ∷ []) × (literal_at clauses (record { parent = 1; lit = site.given_lit }) ≡ Some p.left)
+        × (literal_at clauses (record { parent = 2; lit = site.partner_lit }) ≡ Some p.right)
     pair = one_pair clauses (record { parent = 1; lit = site.given_lit }) (record { parent = 2; lit = site.partner_lit }) i.pairs
         (subst (λ (ps : List Numbered). ArePairs (apart (map (λ (q : Numbered). q.clause) ps)) (places_in 1 (site.given_lit ∷ [])) (places_in 2 (site.partner_lit ∷ [])) i.pairs) h.parents h.pairs)
 
@@ -114,17 +108,17 @@ factor_if given a b h = (
 pub factor_only_if : (given : Numbered) (a b : ℕ) (i : Inference) → IsFactor given (record { first = a; second = b }) i → AreFactored given a b
 factor_only_if given a b i h = record {
   order = h.order;
-  left = pair.0;
-  right = pair.1;
-  left_there = pair.3;
-  right_there = pair.4;
-  signs = subst HaveSameSigns pair.2 h.signs 0 (pair_of pair.0 pair.1) (omega arith);
-  unify = subst Unify pair.2 h.unify;
+  left = (pair.0).left;
+  right = (pair.0).right;
+  left_there = pair.2;
+  right_there = pair.3;
+  signs = subst HaveSameSigns pair.1 h.signs 0 pair.0 (omega arith);
+  unify = subst Unify pair.1 h.unify;
 }
   where
     there : ArePairs (apart (given.clause ∷ [])) (places_in 1 (a ∷ [])) (places_in 1 (b ∷ [])) i.pairs
     there = subst (λ (ps : List Numbered). ArePairs (apart (map (λ (q : Numbered). q.clause) ps)) (places_in 1 (a ∷ [])) (places_in 1 (b ∷ [])) i.pairs) h.parents h.pairs
 
-    pair : (l : Literal) × (r : Literal) × (i.pairs ≡ pair_of l r ∷ []) × (literal_at (apart (given.clause ∷ [])) (record { parent = 1; lit = a }) ≡ Some l)
-        × (literal_at (apart (given.clause ∷ [])) (record { parent = 1; lit = b }) ≡ Some r)
+    pair : (p : Pair) × (i.pairs ≡ p ∷ []) × (literal_at (apart (given.clause ∷ [])) (record { parent = 1; lit = a }) ≡ Some p.left)
+        × (literal_at (apart (given.clause ∷ [])) (record { parent = 1; lit = b }) ≡ Some p.right)
     pair = one_pair (apart (given.clause ∷ [])) (record { parent = 1; lit = a }) (record { parent = 1; lit = b }) i.pairs there

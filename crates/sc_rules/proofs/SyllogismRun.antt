@@ -21,14 +21,14 @@ use Rattle.sc_rules.specs.declared.fate.Fate.TheVariants.{Empty}
 use Rattle.sc_rules.specs.declared.row.Cause.TheVariants as cause
 use Rattle.sc_rules.specs.declared.row.Outcome.TheVariants.{Proof}
 use Rattle.sc_rules.specs.declared.site.BinarySite.{BinarySite}
-use Rattle.sc_rules.specs.Order.{IsBefore, by_number, ends}
+use Rattle.sc_rules.specs.Order.{IsBefore, ends}
 use Rattle.sc_rules.specs.Pairing.{ArePairs, places_in}
 use Rattle.sc_rules.specs.Derivation.{AddsParts}
 use Rattle.sc_rules.specs.Inference.{Inference, Resolving, Concludes}
 use Rattle.sc_rules.specs.Resolution.{IsBinary}
 use Rattle.sc_rules.specs.Sites.{Site, Binary, Factor, Hyper, Ur, ParaFrom, ParaInto, IsSite, AreSites, site_numbers}
-use Rattle.sc_rules.specs.Subsumption.{Subsumes, IsTautology}
-use Rattle.sc_rules.specs.Rewriting.{RewritesOnce}
+use Rattle.sc_subsume.specs.Subsumption.{Subsumes, IsTautology}
+use Rattle.sc_rules.specs.Rewriting.{number_of, RewritesOnce}
 use Rattle.sc_rules.specs.Simplification.{Simplifies, MergesOnce, IsRepeated}
 use Rattle.sc_rules.specs.Book.{Book, with_derived}
 use Rattle.sc_rules.specs.Conflict.{Conflicts}
@@ -197,11 +197,11 @@ is_rival = ((λ e. omega (arith, e)), (false_clause, conflict))
 abbrev live_now : List Numbered
 live_now = one ∷ three ∷ given ∷ four ∷ []
 
-no_earlier : (y : Numbered) → Contains live_now y → IsRival four y → ¬ IsBefore (by_number y) (by_number three)
+no_earlier : (y : Numbered) → Contains live_now y → IsRival four y → ¬ IsBefore (number_of y) (number_of three)
 no_earlier y h rival less = by (first_or_later y one (three ∷ given ∷ four ∷ []) h)
   where
     rest : (three ≡ y) ⊎ (given ≡ y) ⊎ (four ≡ y) → ⊥
-    rest (inl e) = not_before_itself (by_number three) (subst (λ (x : Numbered). IsBefore (by_number x) (by_number three)) (sym e) less)
+    rest (inl e) = not_before_itself (number_of three) (subst (λ (x : Numbered). IsBefore (number_of x) (number_of three)) (sym e) less)
     rest (inr (inl e)) = not_unit four y rival.1.0 rival.1.1 e
     rest (inr (inr e)) = rival.0 (ap (λ (x : Numbered). x.number) (sym e))
 

@@ -1,6 +1,5 @@
 -- Cases in order, least elements, lists in order, filters, and steps that are repeated.
 use Rattle.std.specs.Prelude.{◌≡◌, ◌<◌, ◌⊎◌, ℕ, zero, suc, List, [], ◌∷◌, Contains, All, AllPairs, Bool, true, false, ◌≤◌, length}
-use Rattle.sc_data.specs.declared.Numbered.{Numbered}
 
 -- ---- cases
 
@@ -20,10 +19,6 @@ abbrev pub IsBefore : List ℕ → List ℕ → Type 0
 IsBefore ms [] = ⊥
 IsBefore [] (n ∷ ns) = Unit {0}
 IsBefore (m ∷ ms) (n ∷ ns) = (m < n) ⊎ ((m ≡ n) × IsBefore ms ns)
-
--- clauses are ordered by their numbers
-abbrev pub by_number : Numbered → List ℕ
-by_number p = p.number ∷ []
 
 -- xs are the things of which P holds, each once, in rising order of their numbers
 pub record AreInOrder {X : Type 0} (numbers : X → List ℕ) (P : X → Type 0) (xs : List X) : Type 0 where

@@ -8,13 +8,13 @@ use Rattle.sc_steps.specs.declared.derivation.Derived.{Derived}
 use Rattle.sc_rules.specs.declared.fate.Fate.{Fate}
 use Rattle.sc_rules.specs.declared.fate.Fate.TheVariants.{Kept, Empty, Taut, Heavy, Long, Subsumed}
 use Rattle.sc_rules.specs.declared.fate.Processed.{Processed}
-use Rattle.sc_rules.specs.Subsumption.{Subsumes, IsTautology}
-use Rattle.sc_rules.specs.Rewriting.{HasRedex, BecomesDemodulator}
+use Rattle.sc_subsume.specs.Subsumption.{Subsumes, IsTautology}
+use Rattle.sc_rules.specs.Rewriting.{number_of, HasRedex, BecomesDemodulator}
 use Rattle.sc_rules.specs.Simplification.{Simplifies}
 use Rattle.sc_steps.specs.Derivation.{last_clause}
 use Rattle.sc_rules.specs.Book.{IsSound, Book, next_number, live, weight_in, with_derived, with_deleted}
 use Rattle.sc_rules.specs.Conflict.{IsUnit, Conflicts}
-use Rattle.sc_rules.specs.Order.{Where, With, AreInOrder, IsLeast, by_number}
+use Rattle.sc_rules.specs.Order.{Where, With, AreInOrder, IsLeast}
 
 -- this fate, with nothing deleted
 abbrev pub only_fate : Fate → Processed
@@ -39,7 +39,7 @@ IsRival n m = (m.number ≢ n.number) × ((made : Derived) × Conflicts n m made
 
 -- those of usable and sos other than n of which P holds, in rising order of number
 abbrev pub AreOthers : Book → Numbered → (Clause → Type 0) → List Numbered → Type 0
-AreOthers book n P ps = AreInOrder by_number (λ p. Contains (book.usable ++ book.sos) p × (p.number ≢ n.number) × P p.clause) ps
+AreOthers book n P ps = AreInOrder number_of (λ p. Contains (book.usable ++ book.sos) p × (p.number ≢ n.number) × P p.clause) ps
 
 -- n joins the demodulators
 abbrev pub with_demodulator : Book → Numbered → Book
@@ -62,7 +62,7 @@ pub record Sweeps (problem : Stated) (old : Book) (n : Numbered) (new : Book) (o
 abbrev pub Keeps : Stated → Book → Numbered → Book → Processed → Type 0
 Keeps problem old n new out =
     Where (IsUnit n × ((m : Numbered) × Contains (live old) m × IsRival n m))
-    ((m : Numbered) × (made : Derived) × IsLeast by_number (IsRival n) (live old) m × Conflicts n m made
+    ((m : Numbered) × (made : Derived) × IsLeast number_of (IsRival n) (live old) m × Conflicts n m made
     × (new ≡ with_derived old made.clause made.lines) × (out ≡ only_fate (Empty (n.number + 1))))
     (Sweeps problem old n new out)
 
@@ -76,7 +76,7 @@ MeetsFate problem old c lines turn new out =
     (Where (problem.params.max_weight < weight_in problem c) (Drops old new out Heavy)
     (Where (problem.params.max_literals < length c.literals) (Drops old new out Long)
     (Where ((problem.flags.for_sub ≡ true) × ((m : Numbered) × Contains (live old) m × Subsumes m.clause c))
-    ((m : Numbered) × IsLeast by_number (λ p. Subsumes p.clause c) (live old) m × Drops old new out (Subsumed m.number))
+    ((m : Numbered) × IsLeast number_of (λ p. Subsumes p.clause c) (live old) m × Drops old new out (Subsumed m.number))
     (Keeps problem (with_kept problem old c lines turn) (record { number = next_number problem old; clause = c }) new out)))))
 
 -- the conclusion with the lines of its derivation is simplified and meets its fate in this turn

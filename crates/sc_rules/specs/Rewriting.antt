@@ -15,7 +15,11 @@ use Rattle.sc_data.specs.declared.Numbered.{Numbered}
 use Rattle.sc_rules.specs.Paramodulation.{IsCompound}
 use Rattle.sc_steps.specs.Derivation.{last_clause}
 use Rattle.sc_rules.specs.Derivation.{Adds, AddsPart}
-use Rattle.sc_rules.specs.Order.{IsLeast, ExhaustsWithin, by_number}
+use Rattle.sc_rules.specs.Order.{IsLeast, ExhaustsWithin}
+
+-- clauses are ordered by their numbers
+abbrev pub number_of : Numbered → List ℕ
+number_of p = p.number ∷ []
 
 -- the clause is the one positive equation of these sides
 abbrev pub IsEquation : Clause → Term → Term → Type 0
@@ -64,7 +68,7 @@ pub record RewritesOnce (demods : List Numbered) (before after : List Line) : Ty
   pub redex : Term
   pub first : IsFirstRedex demods clause b path redex
   pub demodulator : Numbered
-  pub least : IsLeast by_number (λ d. Fits d redex) demods demodulator
+  pub least : IsLeast number_of (λ d. Fits d redex) demods demodulator
   pub terms : List Term
   pub value : Term
   pub is_value : IsEquation (instance terms demodulator.clause) redex value

@@ -6,11 +6,12 @@ use Rattle.sc_data.specs.declared.Numbered.{Numbered}
 use Rattle.sc_interp.specs.Versions.{ClaimedStructure, opening}
 use Rattle.sc_interp.specs.declared.plain.VersionName.{VersionName}
 use Rattle.sc_interp.specs.declared.plain.Truth.TheVariants.{False}
+use Rattle.sc_rules.specs.Rewriting.{number_of}
 use Rattle.sc_rules.specs.declared.row.Cause.{Cause}
 use Rattle.sc_rules.specs.declared.row.Cause.TheVariants as cause
 use Rattle.sc_interp.specs.Marks.{IsMark}
 use Rattle.sc_rules.specs.Book.{weight_in}
-use Rattle.sc_rules.specs.Order.{Where, IsLeast, by_number}
+use Rattle.sc_rules.specs.Order.{Where, IsLeast}
 
 -- ---- the guide
 
@@ -66,7 +67,7 @@ ratio problem = problem.params.pick_given_ratio + 1
 abbrev pub Selects : Stated → List Numbered → ℕ → VersionName → ClaimedStructure → Numbered → Cause → Type 0
 Selects problem sos t name v p c =
     Where (t % ratio problem ≡ 0)
-    ((c ≡ cause.Age) × IsLeast by_number IsAny sos p)
+    ((c ≡ cause.Age) × IsLeast number_of IsAny sos p)
     (Where ((name ≢ opening_name) × ((q : Numbered) × Contains sos q × IsFalse v q))
     ((c ≡ cause.False) × IsLeast (by_weight problem) (IsFalse v) sos p)
     ((c ≡ cause.Weight) × IsLeast (by_weight problem) IsAny sos p))

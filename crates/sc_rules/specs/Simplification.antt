@@ -11,10 +11,10 @@ use Rattle.sc_data.specs.Clause.{literal_instance}
 use Rattle.sc_data.specs.Refuted.{atom_of}
 use Rattle.sc_data.specs.declared.Numbered.{Numbered}
 use Rattle.sc_reading.specs.declared.settings.Flags.{Flags}
-use Rattle.sc_rules.specs.Rewriting.{IsEquation, Rewrites}
+use Rattle.sc_rules.specs.Rewriting.{number_of, IsEquation, Rewrites}
 use Rattle.sc_steps.specs.Derivation.{last_clause}
 use Rattle.sc_rules.specs.Derivation.{Adds, AddsPart, EndsCanonical}
-use Rattle.sc_rules.specs.Order.{Where, With, IsLeast, Exhausts, by_number}
+use Rattle.sc_rules.specs.Order.{Where, With, IsLeast, Exhausts}
 
 -- ---- flip
 
@@ -47,7 +47,7 @@ pub record DeletesOnce (units : List Numbered) (before after : List Line) : Type
   pub literal_there : numbered clause.literals a ≡ Some literal
   pub first : (b : ℕ) → b < a → ¬ IsRemovable units clause b
   pub removing : Numbered
-  pub least : IsLeast by_number (Removes literal) units removing
+  pub least : IsLeast number_of (Removes literal) units removing
   pub mid : List Line
   pub k : ℕ
   pub shows : AddsPart before removing (record { literals = record literal { positive = not literal.positive } ∷ [] }) mid k

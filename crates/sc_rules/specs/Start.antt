@@ -7,9 +7,10 @@ use Rattle.sc_data.specs.declared.Numbered.{Numbered}
 use Rattle.sc_reading.specs.declared.settings.Home.{Home}
 use Rattle.sc_reading.specs.declared.settings.Home.TheVariants.{Usable, Sos, Passive, Demodulators}
 use Rattle.sc_steps.specs.declared.derivation.Derived.{Derived}
+use Rattle.sc_rules.specs.Rewriting.{number_of}
 use Rattle.sc_rules.specs.Book.{Book, with_derived}
 use Rattle.sc_rules.specs.Conflict.{Conflicts}
-use Rattle.sc_rules.specs.Order.{Where, IsFilter, IsLeast, by_number}
+use Rattle.sc_rules.specs.Order.{Where, IsFilter, IsLeast}
 
 -- the clauses with their numbers from n on
 abbrev pub numbered_from : ℕ → List Clause → List Numbered
@@ -54,7 +55,7 @@ abbrev pub EndsWith : Stated → Book → Numbered → Book → Option ℕ → T
 EndsWith problem opened n book goal =
     Where (n.clause.literals ≡ [])
     ((book ≡ opened) × (goal ≡ Some n.number))
-    ((m : Numbered) × (made : Derived) × IsLeast by_number (IsEarlierRival problem n) (input_clauses problem) m × Conflicts n m made
+    ((m : Numbered) × (made : Derived) × IsLeast number_of (IsEarlierRival problem n) (input_clauses problem) m × Conflicts n m made
     × (book ≡ with_derived opened made.clause made.lines) × (goal ≡ Some (length problem.inputs + 1)))
 
 -- the book after the start, and the number of the empty clause where that ends the run
@@ -63,5 +64,5 @@ pub record Starts (problem : Stated) (book : Book) (goal : Option ℕ) : Type 0 
   pub opens : OpensBook problem opened
   pub ends :
       Where ((n : Numbered) × Contains (input_clauses problem) n × EndsStart problem n)
-      ((n : Numbered) × IsLeast by_number (EndsStart problem) (input_clauses problem) n × EndsWith problem opened n book goal)
+      ((n : Numbered) × IsLeast number_of (EndsStart problem) (input_clauses problem) n × EndsWith problem opened n book goal)
       ((book ≡ opened) × (goal ≡ None))

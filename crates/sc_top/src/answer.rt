@@ -14,10 +14,8 @@ pub enum Answer {
     ProofChecked { lines: u32 },
     /// This line, from 1, is the first at fault.
     NotAProof { line: u32 },
-    /// The problem is refused at this byte, for this kind of fault; or there are too many bytes.
+    /// The bytes are refused at this one, for this kind of fault.
     InputRefused(Place),
-    /// What stands behind the problem isn't a proof section of the form.
-    SectionRefused,
     WordsRefused,
     ReadFault,
     OutOfMemory,
@@ -62,7 +60,7 @@ impl Answer {
         match self {
             Answer::ProofChecked { .. } => 0,
             Answer::NotAProof { .. } => 1,
-            Answer::InputRefused(_) | Answer::SectionRefused => 3,
+            Answer::InputRefused(_) => 3,
             Answer::WordsRefused => 4,
             Answer::ReadFault => 5,
             Answer::OutOfMemory => 7,
@@ -76,7 +74,6 @@ impl Answer {
         match self {
             Answer::ProofChecked { .. } | Answer::NotAProof { .. } | Answer::InputRefused(_) =>
                 None,
-            Answer::SectionRefused => Some("input refused\n"),
             Answer::WordsRefused => Some(WORDS_TEXT),
             Answer::ReadFault => Some("read fault\n"),
             Answer::OutOfMemory => Some(MEMORY_TEXT),
@@ -93,7 +90,6 @@ impl Answer {
             Answer::InputRefused(Place { at, kind }) => {
                 refused_text(alloc, at, kind_text(kind))?
             }
-            Answer::SectionRefused => format!(in alloc; "input refused\n")?,
             Answer::WordsRefused => format!(in alloc; "words refused\n")?,
             Answer::ReadFault => format!(in alloc; "read fault\n")?,
             Answer::OutOfMemory => format!(in alloc; "out of memory\n")?,

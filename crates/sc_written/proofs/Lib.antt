@@ -1,4 +1,5 @@
 pub mod TextLaws
+pub mod FewLines
 pub mod PrintingExamples
 pub mod ProofExamples
 pub mod ProofFaults

@@ -1,0 +1,23 @@
+//! Readers of the productions of a proof section, from tokens. Each answers exactly what the definition of its name in
+//! `sc_written` (`ProofGrammar`) gives: a value and the tokens behind it, or with how many tokens left it fails, and
+//! why (`Stop`). Want of memory alone is free.
+//!
+//! A number of a step, of a path or of a variable that is greater than 4,294,967,295 is answered as that number
+//! (`specs/Clipped.antt`); the number of a line is compared as it is written. Each line becomes a value as soon as it
+//! is read, so no more than one is kept as it is written.
+//!
+//! It stands on the readers of clauses and sides in `sc_grammar`, and on `sc_problem`, which makes terms of names.
+//! Callers may rest on the clause of `read_section` and on two laws (`proofs/`): what a section leaves is an end of
+//! what it was given, and the first tokens of a text decide what is read of it. Time is linear in the tokens read but
+//! for the look at each symbol's name; sides are read by recursion as deep as their parentheses nest.
+#![tactic(auto)]
+
+mod clause;
+mod number;
+mod section;
+mod step;
+mod terms;
+#[cfg(test)]
+mod tests;
+
+pub use section::read_section;

@@ -1,0 +1,4 @@
+pub mod TakingLaws
+pub mod TermsLaws
+pub mod LeftLaws
+pub mod SearchLaws

@@ -1,0 +1,10 @@
+pub mod TextStanding
+pub mod SmallWords
+pub mod SmallClauses
+pub mod InFormulas
+pub mod Numbers
+pub mod Exact
+pub mod TermsRead
+pub mod Steps
+pub mod LinesRead
+pub mod Laws
