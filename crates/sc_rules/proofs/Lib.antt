@@ -34,6 +34,7 @@ pub mod RewriteExample
 pub mod SimplifyExample
 pub mod ConflictExample
 pub mod ProcessExample
+pub mod BackDemodExample
 pub mod RunExample
 pub mod SyllogismExample
 pub mod SyllogismRun

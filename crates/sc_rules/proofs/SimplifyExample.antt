@@ -26,13 +26,13 @@ use Rattle.sc_rules.proofs.OrderLaws.{not_before_itself}
 weight-Var : (n : ℕ) → term_weight (Var n) ≡ 1
 weight-Var n = fold-Var ℕ weight_step n
 
-abbrev a : Term
+abbrev pub a : Term
 a = App (record { 0 = 4 }) []
 
 abbrev b : Term
 b = App (record { 0 = 5 }) []
 
-abbrev f : List Term → Term
+abbrev pub f : List Term → Term
 f ts = App (record { 0 = 3 }) ts
 
 abbrev unit_of : Literal → Clause
@@ -43,7 +43,7 @@ unit_of l = record { literals = l ∷ [] }
 abbrev uphill : Clause
 uphill = unit_of (equation true a (f (a ∷ [])))
 
-abbrev downhill : Clause
+abbrev pub downhill : Clause
 downhill = unit_of (equation true (f (a ∷ [])) a)
 
 abbrev first_line : Line
@@ -162,7 +162,7 @@ becomes = record {
   fewer = λ v. simp variables-App (omega arith);
 }
 
-sides_of : (l r s t : Term) → IsEquation (unit_of (equation true l r)) s t → (l ≡ s) × (r ≡ t)
+pub sides_of : (l r s t : Term) → IsEquation (unit_of (equation true l r)) s t → (l ≡ s) × (r ≡ t)
 sides_of l r s t h = (ap (λ (ls : List Literal). get_or (get_or ls 0 q).args 0 (Var 0)) h, ap (λ (ls : List Literal). get_or (get_or ls 0 q).args 1 (Var 0)) h)
 
 -- f(a,b) = f(b,a) doesn't, since both sides weigh the same

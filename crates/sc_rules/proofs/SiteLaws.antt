@@ -8,7 +8,7 @@ use Rattle.sc_data.specs.declared.Pair.{Pair}
 use Rattle.sc_data.specs.Substitution.{Unify}
 use Rattle.sc_data.specs.JointInstance.{apart}
 use Rattle.sc_rules.specs.declared.site.BinarySite.{BinarySite}
-use Rattle.sc_rules.specs.Pairing.{Place, literal_at, ArePairs, places_in, HaveOppositeSigns, HaveSameSigns}
+use Rattle.sc_rules.specs.Pairing.{literal_at, ArePairs, places_in, HaveOppositeSigns, HaveSameSigns}
 use Rattle.sc_rules.specs.Inference.{Inference, Resolving, Merging}
 use Rattle.sc_rules.specs.Resolution.{IsBinary, IsFactor}
 use Rattle.sc_rules.proofs.Enumerations.{all_of_one}
