@@ -1,0 +1,5 @@
+pub mod KeptLaws
+pub mod Extending
+pub mod LiteralLaws
+pub mod BinaryLaws
+pub mod FactorLaws

@@ -1,0 +1,12 @@
+//! Binary resolution and factoring: the sites of a given clause.
+#![tactic(auto)]
+
+mod binary;
+mod factor;
+mod literals;
+
+pub use binary::binary_sites;
+pub use factor::factor_sites;
+
+#[cfg(test)]
+mod tests;
