@@ -7,7 +7,7 @@ use Rattle.sc_data.specs.declared.Term.{Term}
 use Rattle.sc_data.specs.declared.Literal.{Literal}
 use Rattle.sc_data.specs.declared.Clause.{Clause}
 use Rattle.sc_data.specs.Term.{joined, term_weight, term_variables, weight_step}
-use Rattle.sc_data.specs.Clause.{literal_weight, weight, width, variables, firsts_after}
+use Rattle.sc_data.specs.Clause.{literal_weight, weight, width, variables, firsts, firsts_after, IsWithinLimits}
 use Rattle.sc_data.specs.JointInstance.{shift}
 use Rattle.sc_data.proofs.TermLaws.{term_ind, fold-Var, weight-App}
 use Rattle.sc_data.proofs.TermSteps.{variables-Var, variables-App}
@@ -51,3 +51,7 @@ kept_length c h = omega (arith, counted c.literals, h.within.light)
 
 pub shifted_length : (by : ℕ) (c : Clause) → length (shift by c).literals ≡ length c.literals
 shifted_length by c = length-map c.literals _
+
+-- a clause within the limits has few variables
+pub few_variables : (c : Clause) → IsWithinLimits c → length (firsts (variables c)) ≤ 10000
+few_variables c h = omega (arith, fewer_firsts [] (variables c), short_clause c, h.light)

@@ -3,3 +3,5 @@ pub mod Extending
 pub mod LiteralLaws
 pub mod BinaryLaws
 pub mod FactorLaws
+pub mod LineLaws
+pub mod CanonicalLaws

@@ -2,7 +2,9 @@
 #![tactic(auto)]
 
 mod binary;
+mod canonical;
 mod factor;
+mod lines;
 mod literals;
 
 pub use binary::binary_sites;
