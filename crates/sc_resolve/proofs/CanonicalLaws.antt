@@ -1,7 +1,7 @@
 -- The terms that take a clause to its canonical form.
-use Rattle.std.proofs.Common.{◌≡◌, ◌∙◌, sym, ap, subst, refl, ℕ, zero, suc, ◌+◌, ◌<◌, ◌≤◌, ◌⊎◌, inl, inr, max, fold, List, [], ◌∷◌, ◌++◌, length, map, sum, get_or, slice_get, Some, Bool, true, false, ◌||◌, not, nat_eq, nat_lt, if◌then◌else◌, arith}
+use Rattle.std.proofs.Common.{◌≡◌, ◌∙◌, sym, ap, subst, refl, ℕ, zero, suc, ◌+◌, ◌<◌, ◌≤◌, ◌⊎◌, inl, inr, max, fold, List, [], ◌∷◌, length, map, get_or, slice_get, Some, Bool, true, false, ◌||◌, not, nat_eq, if◌then◌else◌, arith}
 use Rattle.std.specs.List.{AllByRecursion, Contains, list_any, position_or_len}
-use Rattle.std.proofs.lemmas.Bool.{eqb-true, eqb-false, eq-eqb, lt-ltb, le-ltb}
+use Rattle.std.proofs.lemmas.Bool.{eqb-true, eqb-false, lt-ltb, le-ltb}
 use Rattle.std.proofs.lemmas.Option.{get_or_from_slice_get}
 use Rattle.std.proofs.lemmas.List.{append-nil}
 use Rattle.sc_data.specs.declared.Term.{Term, Var}
@@ -11,7 +11,7 @@ use Rattle.sc_data.specs.declared.Clause.{Clause}
 use Rattle.sc_data.specs.declared.Line.{Line}
 use Rattle.sc_data.specs.declared.Step.TheVariants.{Instance}
 use Rattle.sc_data.specs.Term.{largest, joined, term_width, term_variables, value_of}
-use Rattle.sc_data.specs.Clause.{literal_weight, literal_depth, literal_width, width, variables, firsts, firsts_after, counting_from, instance, IsCanonical, IsWithinLimits}
+use Rattle.sc_data.specs.Clause.{literal_width, width, variables, firsts, firsts_after, counting_from, instance, IsCanonical, IsWithinLimits}
 use Rattle.sc_data.specs.JointInstance.{canonical, renumbering, whole}
 use Rattle.sc_data.proofs.TermLaws.{term_ind, width-Var, width-App}
 use Rattle.sc_data.proofs.TermSteps.{variables-Var, variables-App}
@@ -26,7 +26,7 @@ use Rattle.sc_interp.proofs.Width.{canonical_width}
 use Rattle.sc_rules.specs.Order.{Where}
 use Rattle.sc_rules.specs.Derivation.{Adds, AreTermsTo, EndsCanonical}
 use Rattle.sc_rules.proofs.OrderLaws.{first_or_later, later}
-use Rattle.sc_rules.proofs.DerivationLaws.{found, at_found}
+use Rattle.sc_rules.proofs.DerivationLaws.{at_found}
 use Rattle.sc_resolve.specs.Lines.{IsAdded}
 use Rattle.sc_resolve.specs.Canonical.{place_in}
 use Rattle.sc_resolve.proofs.LineLaws.{adds_instance_of}

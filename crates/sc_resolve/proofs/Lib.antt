@@ -5,3 +5,5 @@ pub mod BinaryLaws
 pub mod FactorLaws
 pub mod LineLaws
 pub mod CanonicalLaws
+pub mod PartLaws
+pub mod FactoringLaws

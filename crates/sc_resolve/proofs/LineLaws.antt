@@ -1,6 +1,5 @@
 -- A derivation grows by the part of a parent.
-use Rattle.std.proofs.Common.{◌≡◌, ◌∙◌, sym, ap, subst, refl, ℕ, ◌+◌, ◌≤◌, ◌⊎◌, inl, inr, List, [], ◌∷◌, ◌++◌, length, length-append, Some, arith}
-use Rattle.std.specs.Prelude.{IsSomeAnd}
+use Rattle.std.proofs.Common.{◌≡◌, ◌∙◌, sym, ap, subst, ℕ, ◌+◌, ◌⊎◌, inl, inr, List, [], ◌∷◌, ◌++◌, length, length-append, Some, arith}
 use Rattle.sc_data.specs.declared.Term.{Term}
 use Rattle.sc_data.specs.declared.Clause.{Clause}
 use Rattle.sc_data.specs.declared.Line.{Line}
@@ -15,7 +14,7 @@ use Rattle.sc_steps.proofs.ListLaws.{some_and}
 use Rattle.sc_steps.proofs.LineLaws.{some_so, clause_in_whole, clause_of_end, number_in_front_or_end}
 use Rattle.sc_rules.specs.Derivation.{Adds, AddsPart, AreTermsTo}
 use Rattle.sc_rules.proofs.DerivationCases.{adds_instance}
-use Rattle.sc_resolve.specs.Lines.{IsAdded, HasInput, HasPart, Keeps}
+use Rattle.sc_resolve.specs.Lines.{IsAdded, HasInput, HasPart}
 
 -- ---- one line more
 

@@ -1,5 +1,5 @@
 -- The terms that take a clause to its canonical form.
-use Rattle.std.specs.Prelude.{ℕ, ◌<◌, List, length, nat_eq, nat_lt, if◌then◌else◌}
+use Rattle.std.specs.Prelude.{ℕ, List, length, nat_eq, nat_lt, if◌then◌else◌}
 use Rattle.std.specs.List.{position_or_len}
 
 -- how many of the list stand before the number, 0 where it isn't there

@@ -5,3 +5,5 @@ pub mod Binary
 pub mod Factor
 pub mod Lines
 pub mod Canonical
+pub mod Parts
+pub mod Made

@@ -1,6 +1,6 @@
 ghost use Rattle.std.specs.Prelude.{◌≡◌, IfOk};
 
-use crate::{binary_sites, factor_sites};
+use crate::{binary_sites, factor_sites, make_factor};
 use sc_data::{Clause, Literal, Numbered, SymId, Term};
 use sc_term::Mem;
 use sqlite_items::Items;
@@ -60,7 +60,32 @@ fn binary_case(alloc: Global) -> Mem<bool> {
     Ok(sites.len() == 2 && is_site(&sites, 0, (1, 1, 1)) && is_site(&sites, 1, (3, 2, 1)))
 }
 
+fn factor_case(alloc: Global) -> Mem<bool> {
+    let given = two(
+        alloc,
+        1,
+        literal(alloc, true, 1, true)?,
+        literal(alloc, true, 1, false)?,
+    )?;
+    let sites = factor_sites(alloc, &given, 9)?;
+    let site = match sites.get(0) {
+        Some(site) => site,
+        None => return Ok(false),
+    };
+    let made = match make_factor(alloc, &given, site)? {
+        Some(made) => made,
+        None => return Ok(false),
+    };
+    Ok(
+        site.first == 1
+            && site.second == 2
+            && made.clause.literals.len() == 1
+            && made.lines.len() == 3,
+    )
+}
+
 #[test]
 fn sites_are_those_worked_out(rt: HostRuntime) {
     assert_eq!(rt; binary_case(rt.alloc()), Ok(true));
+    assert_eq!(rt; factor_case(rt.alloc()), Ok(true));
 }
