@@ -7,3 +7,4 @@ pub mod LineLaws
 pub mod CanonicalLaws
 pub mod PartLaws
 pub mod FactoringLaws
+pub mod ResolvingLaws

@@ -1,28 +1,31 @@
 -- The parts of parents: instances of them, in which the pairs are equal.
-use Rattle.std.proofs.Common.{◌≡◌, ◌∙◌, sym, ap, subst, refl, ℕ, zero, suc, ◌+◌, ◌-◌, ◌<◌, ◌≤◌, max, fold, List, [], ◌∷◌, ◌++◌, length, length-append, map, sum, take, get_or, Some, false, true, slice_get, arith}
-use Rattle.std.specs.Prelude.{IfSome, IsSome, MatchOption, ◌↔◌, Option, None}
-use Rattle.std.specs.List.{remove}
+use Rattle.std.proofs.Common.{◌≡◌, ◌∙◌, sym, ap, subst, refl, ℕ, zero, suc, ◌+◌, ◌-◌, ◌<◌, ◌≤◌, max, fold, List, [], ◌∷◌, ◌++◌, length, length-append, map, sum, take, get_or, Some, false, true, slice_get, arith, not, append-nil}
+use Rattle.std.specs.Prelude.{IfSome, IsSome, MatchOption, ◌↔◌, Option, None, IsSomeAnd}
+use Rattle.std.specs.List.{remove, AllByRecursion}
 use Rattle.std.proofs.lemmas.Option.{slice_get-map}
 use Rattle.std.proofs.lemmas.List.Sums.{sum_by-cons}
-use Rattle.sc_data.specs.declared.Term.{Term}
+use Rattle.sc_data.specs.declared.Term.{Term, Var}
+use Rattle.sc_data.proofs.TermLaws.{term_ind, width-Var, width-App}
+use Rattle.sc_data.proofs.TermSteps.{under-Var, under-App}
+use Rattle.sc_resolve.specs.declared.joint.Both.{Both}
 use Rattle.sc_data.specs.declared.Literal.{Literal}
 use Rattle.sc_data.specs.declared.Clause.{Clause}
 use Rattle.sc_data.specs.declared.Pair.{Pair}
-use Rattle.sc_data.specs.Numbering.{numbered}
+use Rattle.sc_data.specs.Numbering.{numbered, without}
 use Rattle.sc_data.specs.Refuted.{Atom, atom_of}
-use Rattle.sc_data.specs.Term.{joined, largest, term_under}
-use Rattle.sc_data.specs.Clause.{literal_weight, literal_depth, variables, firsts, IsWithinLimits}
+use Rattle.sc_data.specs.Term.{joined, largest, term_under, term_width}
+use Rattle.sc_data.specs.Clause.{literal_weight, literal_depth, variables, firsts, IsWithinLimits, literal_width, width, instance}
 use Rattle.sc_data.specs.Substitution.{Substitution, literal_under, clause_under, IsUnifier, IsMostGeneralUnifier}
-use Rattle.sc_data.specs.JointInstance.{IsJointInstance, apart, renumbering, renumbered, whole}
-use Rattle.sc_data.proofs.SubstitutionLaws.{clauses_laws, literal_laws}
+use Rattle.sc_data.specs.JointInstance.{IsJointInstance, apart, renumbering, renumbered, whole, shift}
+use Rattle.sc_data.proofs.SubstitutionLaws.{clauses_laws, literal_laws, all_of}
 use Rattle.sc_steps.proofs.LineLaws.{map_some}
 use Rattle.sc_unify.specs.Joint.{AreTermsOf}
 use Rattle.sc_unify.specs.Unifiers.{substitution}
 use Rattle.sc_unify.specs.declared.bound.Binding.{Binding}
 use Rattle.sc_resolve.specs.Literals.{pair_of}
-use Rattle.sc_resolve.specs.Parts.{IsOutside, AreJoint, AreTermsOfOne}
-use Rattle.sc_resolve.specs.Made.{IsRepeated}
-use Rattle.sc_resolve.proofs.LiteralLaws.{numbered_next, numbered_place, contains_at, apart_one}
+use Rattle.sc_resolve.specs.Parts.{IsOutside, AreJoint, AreTermsOfOne, AreTermsOfTwo}
+use Rattle.sc_resolve.specs.Made.{IsRepeated, IsOpposed}
+use Rattle.sc_resolve.proofs.LiteralLaws.{numbered_next, numbered_place, contains_at, apart_one, apart_two}
 
 -- ---- parts are instances that make the pairs equal
 
@@ -180,3 +183,100 @@ popped_one parents c pairs entries found told rest (Some last) h e k =
     let one = told_some parents (c ∷ []) pairs entries found told h e in
     let some = terms_of_one c pairs told _ one.0 one.1 in
     subst (AreTermsOfOne c pairs) (last_of_one some.0 last rest (sym some.1 ∙ k)) some.2
+
+-- ---- terms of two parents
+
+terms_of_two : (c d : Clause) (pairs : List Pair) (told : List (List Term)) (p q : Clause) → AreTermsOf (c ∷ d ∷ []) told (p ∷ q ∷ []) → AreJoint (c ∷ d ∷ []) pairs (p ∷ q ∷ [])
+    → (s : List Term) × (t : List Term) × (told ≡ s ∷ t ∷ []) × AreTermsOfTwo c d pairs s t
+terms_of_two c d pairs [] p q h joint = absurd h
+terms_of_two c d pairs (s ∷ []) p q h joint = absurd h.2
+terms_of_two c d pairs (s ∷ t ∷ []) p q h joint = (
+  s,
+  t,
+  refl,
+  record {
+    left_many = h.0;
+    right_many = h.2.0;
+    joint = subst (λ (x : Clause). AreJoint (c ∷ d ∷ []) pairs (x ∷ instance t d ∷ [])) (sym h.1) (subst (λ (x : Clause). AreJoint (c ∷ d ∷ []) pairs (p ∷ x ∷ [])) (sym h.2.1) joint);
+  },
+)
+terms_of_two c d pairs (s ∷ t ∷ u ∷ us) p q h joint = absurd h.2.2
+
+pub told_two : (parents : List Clause) (c d : Clause) (pairs : List Pair) (entries : List Binding) (found : Option (List (List Term))) (told : List (List Term)) (both : Option Both)
+    → IsTold parents (c ∷ d ∷ []) pairs entries found → found ≡ Some told → ((s t : List Term) → told ≡ s ∷ t ∷ [] → IsSomeAnd both (λ b. (b.left ≡ s) × (b.right ≡ t)))
+    → MatchOption both (IsOutside (c ∷ d ∷ []) pairs) (λ b. AreTermsOfTwo c d pairs b.left b.right)
+told_two parents c d pairs entries found told None h e k =
+    let two = told_some parents (c ∷ d ∷ []) pairs entries found told h e in
+    let some = terms_of_two c d pairs told _ _ two.0 two.1 in
+    absurd (k some.0 some.1 some.2)
+told_two parents c d pairs entries found told (Some b) h e k =
+    let two = told_some parents (c ∷ d ∷ []) pairs entries found told h e in
+    let some = terms_of_two c d pairs told _ _ two.0 two.1 in
+    let are = k some.0 some.1 some.2 in
+    subst (λ (s : List Term). AreTermsOfTwo c d pairs s b.right) (sym are.0) (subst (AreTermsOfTwo c d pairs some.0) (sym are.1) some.3)
+
+-- ---- opposite literals of two parts
+
+pub opposed : (c d left right : Clause) (l m : Literal) (a b : ℕ) → IsJointInstance (c ∷ d ∷ []) (pair_of l m) (left ∷ right ∷ []) → numbered c.literals a ≡ Some l
+    → numbered (shift (width c) d).literals b ≡ Some m → l.positive ≡ not m.positive → IsOpposed left a right b
+opposed c d left right l m a b joint at_l at_m signs =
+    let h = unified (c ∷ d ∷ []) (pair_of l m) (left ∷ right ∷ []) joint in
+    let both : left ∷ right ∷ [] ≡ clause_under h.by c ∷ clause_under h.by (shift (width c) d) ∷ [] = h.parts_are ∙ ap (map (clause_under h.by)) (apart_two c d) in
+    let e : left ≡ clause_under h.by c = cc in
+    let f : right ≡ clause_under h.by (shift (width c) d) = cc in
+    record {
+      l = literal_under h.by l;
+      m = literal_under h.by m;
+      left_there = ap (λ (x : Clause). numbered x.literals a) e ∙ numbered_map (literal_under h.by) c.literals a l at_l;
+      right_there = ap (λ (x : Clause). numbered x.literals b) f ∙ numbered_map (literal_under h.by) (shift (width c) d).literals b m at_m;
+      opposite = (signs, h.unifies 0 (record { left = l; right = m }) (omega arith));
+    }
+
+-- ---- limits of two parts
+
+no_literals : (ys : List Literal) → NoMore [] ys
+no_literals ys = record { light = omega arith; shallow = omega arith }
+
+itself : (xs : List Literal) → NoMore xs xs
+itself xs = record { light = omega arith; shallow = omega arith }
+
+pub left_within : (left right : Clause) → IsWithinLimits (whole (left ∷ right ∷ [])) → IsWithinLimits left
+left_within left right h =
+    within_so left (whole (left ∷ right ∷ []))
+    (subst (λ (ls : List Literal). NoMore ls (left.literals ++ (right.literals ++ []))) (append-nil left.literals)
+    (both_no_more left.literals left.literals [] (right.literals ++ []) (itself left.literals) (no_literals (right.literals ++ [])))) h
+
+pub right_within : (left right : Clause) → IsWithinLimits (whole (left ∷ right ∷ [])) → IsWithinLimits right
+right_within left right h =
+    within_so right (whole (left ∷ right ∷ []))
+    (subst (λ (ls : List Literal). NoMore ls (left.literals ++ (right.literals ++ []))) (append-nil right.literals)
+    (both_no_more [] left.literals (right.literals ++ []) (right.literals ++ []) (no_literals left.literals) (itself (right.literals ++ [])))) h
+
+pub resolvent_within : (left right c : Clause) (a b : ℕ) → c.literals ≡ without left.literals a ++ without right.literals b → IsWithinLimits (whole (left ∷ right ∷ [])) → IsWithinLimits c
+resolvent_within left right c a b e h =
+    within_so c (whole (left ∷ right ∷ []))
+    (subst (λ (ls : List Literal). NoMore ls (left.literals ++ (right.literals ++ []))) (sym e)
+    (subst (λ (ls : List Literal). NoMore (without left.literals a ++ without right.literals b) (left.literals ++ ls)) (sym (append-nil right.literals))
+    (both_no_more (without left.literals a) left.literals (without right.literals b) right.literals (removed left.literals (a - 1)) (removed right.literals (b - 1))))) h
+
+-- ---- the width of what is renamed apart
+
+wide_row : {X : Type 0} (by : ℕ) (w : X → ℕ) (f : X → X) (xs : List X) → AllByRecursion (λ x. w (f x) ≤ w x + by) xs → largest (map w (map f xs)) ≤ largest (map w xs) + by
+wide_row by w f [] h = omega arith
+wide_row by w f (x ∷ xs) h = omega (arith, h.0, wide_row by w f xs h.1, largest-cons (w x) (map w xs), largest-cons (w (f x)) (map w (map f xs)))
+
+wide_term : (by : ℕ) (t : Term) → term_width (term_under (λ n. Var (n + by)) t) ≤ term_width t + by
+wide_term by t = term_ind (λ t. term_width (term_under (λ n. Var (n + by)) t) ≤ term_width t + by)
+    (λ n. omega (arith, width-Var n, ap (λ (u : Term). term_width u) (under-Var (λ n. Var (n + by)) n), width-Var (n + by)))
+    (λ f xs h. omega (
+      arith,
+      width-App f xs,
+      ap (λ (u : Term). term_width u) (under-App (λ n. Var (n + by)) f xs),
+      width-App f (map (term_under (λ n. Var (n + by))) xs),
+      wide_row by term_width (term_under (λ n. Var (n + by))) xs h,
+    )) t
+
+pub shifted_width : (by : ℕ) (c : Clause) → width (shift by c) ≤ width c + by
+shifted_width by c = wide_row by literal_width (literal_under (λ n. Var (n + by))) c.literals
+    (all_of (λ l. literal_width (literal_under (λ n. Var (n + by)) l) ≤ literal_width l + by)
+    (λ l. wide_row by term_width (term_under (λ n. Var (n + by))) l.args (all_of (λ t. term_width (term_under (λ n. Var (n + by)) t) ≤ term_width t + by) (wide_term by) l.args)) c.literals)

@@ -4,13 +4,15 @@ use Rattle.sc_data.specs.declared.Literal.{Literal}
 use Rattle.sc_data.specs.declared.Clause.{Clause}
 use Rattle.sc_data.specs.declared.Line.{Line}
 use Rattle.sc_data.specs.declared.Numbered.{Numbered}
-use Rattle.sc_data.specs.declared.Step.TheVariants.{Merge}
+use Rattle.sc_data.specs.declared.Step.TheVariants.{Merge, Resolve}
 use Rattle.sc_data.specs.Numbering.{numbered}
+use Rattle.sc_data.specs.Proof.{AreOpposite}
 use Rattle.sc_steps.specs.declared.derivation.Derived.{Derived}
 use Rattle.sc_steps.specs.declared.made.Made.{Made}
 use Rattle.sc_rules.specs.Derivation.{Adds, AddsPart, EndsCanonical}
-use Rattle.sc_rules.specs.Inference.{Inference, Merging, Concludes}
-use Rattle.sc_resolve.specs.Literals.{pair_of, AreMergeable}
+use Rattle.sc_rules.specs.Inference.{Inference, Merging, Resolving, Concludes}
+use Rattle.sc_resolve.specs.Literals.{pair_of, AreMergeable, AreResolvable}
+use Rattle.sc_resolve.specs.Binary.{renamed}
 
 -- what is made is the conclusion of the inference, or else it has none
 abbrev pub Makes : Inference → Option Made → Type 0
@@ -42,4 +44,35 @@ pub record AreMerging (given : Numbered) (part : Clause) (second : ℕ) (lines :
   pub opens : AddsPart [] given part opening line
   pub steps : List Line
   pub ends : Adds opening (Merge line second) steps
+  pub canonical_last : EndsCanonical steps lines
+
+-- ---- binary resolution
+
+-- literal l, number a of the given clause, and m, number b of the partner renamed apart, can be resolved on
+pub record AreResolved (given partner : Numbered) (l m : Literal) (a b : ℕ) : Type 0 where
+  pub left_there : numbered given.clause.literals a ≡ Some l
+  pub right_there : numbered (renamed given partner) b ≡ Some m
+  pub can : AreResolvable l m
+
+abbrev pub resolution : Numbered → Numbered → Literal → Literal → ℕ → ℕ → Inference
+resolution given partner l m a b = record { parents = given ∷ partner ∷ []; pairs = pair_of l m; ending = Resolving (a ∷ []) (b ∷ []) }
+
+-- these literals of the two clauses are opposite
+pub record IsOpposed (left : Clause) (a : ℕ) (right : Clause) (b : ℕ) : Type 0 where
+  pub l : Literal
+  pub m : Literal
+  pub left_there : numbered left.literals a ≡ Some l
+  pub right_there : numbered right.literals b ≡ Some m
+  pub opposite : AreOpposite l m
+
+-- the lines go from the parts of the two clauses by resolving them on these literals
+pub record AreResolving (given partner : Numbered) (left right : Clause) (a b : ℕ) (lines : List Line) : Type 0 where
+  pub mid : List Line
+  pub left_line : ℕ
+  pub left_opens : AddsPart [] given left mid left_line
+  pub opening : List Line
+  pub right_line : ℕ
+  pub right_opens : AddsPart mid partner right opening right_line
+  pub steps : List Line
+  pub ends : Adds opening (Resolve left_line a right_line b) steps
   pub canonical_last : EndsCanonical steps lines

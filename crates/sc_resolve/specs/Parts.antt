@@ -19,3 +19,9 @@ pub record AreJoint (parents : List Clause) (pairs : List Pair) (parts : List Cl
 pub record AreTermsOfOne (c : Clause) (pairs : List Pair) (terms : List Term) : Type 0 where
   pub many : length terms ≡ width c
   pub joint : AreJoint (c ∷ []) pairs (instance terms c ∷ [])
+
+-- the terms take the two parents to their parts
+pub record AreTermsOfTwo (c d : Clause) (pairs : List Pair) (left right : List Term) : Type 0 where
+  pub left_many : length left ≡ width c
+  pub right_many : length right ≡ width d
+  pub joint : AreJoint (c ∷ d ∷ []) pairs (instance left c ∷ instance right d ∷ [])

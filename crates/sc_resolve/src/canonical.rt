@@ -7,11 +7,14 @@ ghost use Rattle.sc_data.specs.Clause.{IsWithinLimits, counting_from};
 ghost use Rattle.sc_steps.specs.Derivation.{last_clause};
 ghost use Rattle.sc_rules.specs.Derivation.{EndsCanonical};
 ghost use Rattle.sc_resolve.specs.Canonical.{place_in};
+ghost use Rattle.sc_resolve.specs.Kept.{IsKept};
 
 use crate::lines::add_line;
 use sc_data::{Clause, Line, Step, Term};
 use sc_steps::Made;
-use sc_term::{Mem, canonical, copy, full_width, note_variables};
+use sc_term::{
+    MAX_DEPTH, MAX_WEIGHT, Mem, canonical, copy, depth, full_width, note_variables, weight,
+};
 use sqlite_items::Items;
 use std::alloc::Global;
 
@@ -59,6 +62,18 @@ fn numbering(alloc: Global, order: &[u32], width: u64) -> Mem<Items<Term>>
         terms.push(Term::Var(number_of(order, n)))?;
     }
     Ok(terms)
+}
+
+/// Whether the clause is canonical and within the limits, as given and usable clauses are.
+pub fn is_kept(alloc: Global, c: &Clause) -> Mem<bool>
+    ensures { IfOk result (λ kept. IsTrue kept ↔ IsKept c.now) }
+{
+    if weight(c) > MAX_WEIGHT || depth(c) > MAX_DEPTH {
+        return Ok(false);
+    }
+    let mut order = Vec::new(alloc);
+    note_variables(c, &mut order)?;
+    Ok(is_counting(order.as_slice()))
 }
 
 /// The conclusion with its derivation, which gets an `instance` line to the canonical form of its last clause, unless

@@ -1,13 +1,26 @@
-//! Whether two literals may be resolved on or merged.
+//! Literals by their numbers, and whether two may be resolved on or merged.
 
 ghost use Rattle.std.specs.Prelude.{◌≡◌, ◌↔◌, not, false, IsTrue, IfOk};
 ghost use Rattle.std.specs.List.{list_any};
+ghost use Rattle.std.specs.Option.{option_copied};
+ghost use Rattle.sc_data.specs.Numbering.{numbered};
 ghost use Rattle.sc_resolve.specs.Literals.{may_resolve, may_merge, AreResolvable, AreMergeable};
 
 use sc_data::Literal;
 use sc_term::Mem;
 use sc_unify::unify;
 use std::alloc::Global;
+
+/// Literal number n, from 1.
+pub fn literal(items: &[Literal], n: u32) -> Option<&Literal>
+    ensures { option_copied result ≡ numbered items.now n }
+{
+    if n == 0 {
+        None
+    } else {
+        items.get(n as usize - 1)
+    }
+}
 
 /// Whether the signs are opposite and the predicates the same.
 fn may_resolve(l: &Literal, m: &Literal) -> bool

@@ -1,8 +1,6 @@
 //! Conclusions of factoring.
 
 ghost use Rattle.std.specs.Prelude.{◌≡◌, ◌<◌, ◌≤◌, ℕ, length, IfOk};
-ghost use Rattle.std.specs.Option.{option_copied};
-ghost use Rattle.sc_data.specs.Numbering.{numbered};
 ghost use Rattle.sc_data.specs.Clause.{IsWithinLimits};
 ghost use Rattle.sc_rules.specs.Derivation.{AreTermsTo};
 ghost use Rattle.sc_rules.specs.Inference.{Inference};
@@ -13,23 +11,13 @@ ghost use Rattle.sc_resolve.specs.Made.{Makes, AreFactored, factoring, IsRepeate
 use crate::canonical::finish;
 use crate::joint::{Part, joint_one, part_of};
 use crate::lines::{add_line, add_part};
+use crate::literals::literal;
 use sc_data::{Literal, Numbered, Step};
 use sc_rules::FactorSite;
 use sc_steps::Made;
 use sc_term::{Mem, copy};
 use sqlite_items::Items;
 use std::alloc::Global;
-
-/// Literal number n, from 1.
-pub fn literal(items: &[Literal], n: u32) -> Option<&Literal>
-    ensures { option_copied result ≡ numbered items.now n }
-{
-    if n == 0 {
-        None
-    } else {
-        items.get(n as usize - 1)
-    }
-}
 
 /// The part without the literal of this number, which equals an earlier one, with its derivation.
 fn merged(alloc: Global, given: &Numbered, part: Part, second: u32) -> Mem<Made>
