@@ -1,0 +1,10 @@
+pub mod KeptLaws
+pub mod Extending
+pub mod LiteralLaws
+pub mod BinaryLaws
+pub mod FactorLaws
+pub mod LineLaws
+pub mod CanonicalLaws
+pub mod PartLaws
+pub mod FactoringLaws
+pub mod ResolvingLaws

@@ -1,0 +1,9 @@
+pub mod Kept
+pub mod Extending
+pub mod Literals
+pub mod Binary
+pub mod Factor
+pub mod Lines
+pub mod Canonical
+pub mod Parts
+pub mod Made
