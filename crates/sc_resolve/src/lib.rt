@@ -26,3 +26,6 @@ pub use canonical::is_kept;
 pub use factor::factor_sites;
 pub use merging::make_factor;
 pub use resolving::make_binary;
+
+#[cfg(test)]
+mod tests;
