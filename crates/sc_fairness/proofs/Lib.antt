@@ -1,0 +1,4 @@
+pub mod Counting
+pub mod BookChanges
+pub mod Fairness
+pub mod InTime
