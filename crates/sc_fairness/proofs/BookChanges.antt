@@ -1,11 +1,10 @@
 -- What processing may do to a book: a clause that is new in a list has a new number and stands in sos.
-use Rattle.std.proofs.Common.{◌≡◌, ◌∙◌, sym, ap, subst, refl, ℕ, ◌+◌, ◌<◌, ◌≤◌, ◌⊎◌, inl, inr, List, [], ◌∷◌, ◌++◌, length, map, arith, not, nat_eq}
+use Rattle.std.proofs.Common.{◌≡◌, sym, ap, subst, refl, ℕ, ◌+◌, ◌<◌, ◌≤◌, ◌⊎◌, inl, inr, List, [], ◌∷◌, length, arith, not, nat_eq}
 use Rattle.std.specs.List.{Contains, list_any}
 use Rattle.std.proofs.lemmas.List.{length-append}
 use Rattle.sc_data.specs.declared.Clause.{Clause}
 use Rattle.sc_data.specs.declared.Line.{Line}
 use Rattle.sc_data.specs.declared.Numbered.{Numbered}
-use Rattle.sc_steps.specs.declared.derivation.Derived.{Derived}
 use Rattle.sc_reading.specs.Problem.{Stated}
 use Rattle.sc_rules.specs.declared.fate.Processed.{Processed}
 use Rattle.sc_rules.specs.declared.row.KeptRow.{KeptRow}

@@ -1,5 +1,5 @@
 -- What holds of sos at each point of a run, and that a turn keeps it.
-use Rattle.std.proofs.Common.{◌≡◌, ◌≢◌, ◌∙◌, sym, ap, subst, refl, ℕ, ◌+◌, ◌*◌, ◌/◌, ◌%◌, ◌<◌, ◌≤◌, ◌⊎◌, inl, inr, List, [], ◌∷◌, ◌++◌, length, map, Bool, true, false, arith, not, nat_eq}
+use Rattle.std.proofs.Common.{◌≡◌, ◌≢◌, ◌∙◌, sym, ap, subst, refl, ℕ, ◌+◌, ◌/◌, ◌<◌, ◌≤◌, ◌⊎◌, inl, inr, List, [], ◌∷◌, ◌++◌, length, map, Bool, true, false, arith, not, nat_eq}
 use Rattle.std.specs.List.{Contains, list_any}
 use Rattle.std.proofs.lemmas.Bool.{eqb-true, eqb-false, eq-eqb}
 use Rattle.std.proofs.lemmas.List.{length-append}
@@ -9,7 +9,6 @@ use Rattle.sc_data.specs.declared.Clause.{Clause}
 use Rattle.sc_data.specs.declared.Numbered.{Numbered}
 use Rattle.sc_steps.specs.declared.derivation.Derived.{Derived}
 use Rattle.sc_reading.specs.Problem.{Stated}
-use Rattle.sc_reading.specs.declared.settings.Home.TheVariants.{Sos}
 use Rattle.sc_interp.specs.Versions.{ClaimedStructure}
 use Rattle.sc_rules.specs.declared.row.Cause.TheVariants as cause
 use Rattle.sc_rules.specs.declared.row.GivenRow.{GivenRow}
@@ -17,7 +16,7 @@ use Rattle.sc_rules.specs.declared.row.KeptRow.{KeptRow}
 use Rattle.sc_rules.specs.Order.{IsLeast}
 use Rattle.sc_rules.specs.Rewriting.{number_of}
 use Rattle.sc_rules.specs.Book.{Book, live, next_number, leaving_out}
-use Rattle.sc_rules.specs.Start.{numbered_from, input_clauses, IsAtHome}
+use Rattle.sc_rules.specs.Start.{numbered_from, input_clauses}
 use Rattle.sc_rules.specs.Selection.{Seen, IsAny, Selects, ratio}
 use Rattle.sc_rules.specs.WorkList.{At}
 use Rattle.sc_rules.specs.Turn.{Run, Infer, with_given}
@@ -26,20 +25,11 @@ use Rattle.sc_rules.proofs.FilterLaws.{in_either, in_first, in_second}
 use Rattle.sc_rules.proofs.DerivationLaws.{compared}
 use Rattle.sc_rules.proofs.SoundLaws.{at}
 use Rattle.sc_rules.proofs.TurnLaws.{selected_there}
+use Rattle.sc_fairness.specs.LeavesInTime.{WasPut, WasGivenBy, last_turn}
 use Rattle.sc_fairness.proofs.Counting.{Bears, Shrinks, below, below_less, below_shrinks, below_falls, none_more, one_more, in_time}
 use Rattle.sc_fairness.proofs.BookChanges.{Changes, IsNew, works_changes, left_there}
 
 -- ---- what is kept
-
--- clause n was put in sos in turn t, by these rows
-abbrev pub PutIn : Stated → List KeptRow → ℕ → ℕ → Type 0
-PutIn problem kept n t =
-    ((p : Numbered) × Contains (input_clauses problem) p × IsAtHome problem Sos p × (p.number ≡ n) × (t ≡ 0))
-    ⊎ ((row : KeptRow) × Contains kept row × (row.number ≡ n) × (row.turn ≡ t))
-
--- clause n was given in turn t or before, by these rows
-abbrev pub GivenIn : List GivenRow → ℕ → ℕ → Type 0
-GivenIn given n t = (row : GivenRow) × Contains given row × (row.number ≡ n) × (row.turn ≤ t)
 
 -- after s turns clause n, put in sos in turn t, isn't live but in sos; and while it stands there, the turns that r divides
 -- since turn t and the clauses of sos of smaller number are together fewer than n
@@ -54,7 +44,7 @@ pub record IsFair (problem : Stated) (book : Book) (given : List GivenRow) : Typ
   pub positive : ¬ Bears book.sos 0
   pub rows : (row : KeptRow) → Contains book.kept row → row.number < next_number problem book
   pub turns : (row : GivenRow) → Contains given row → row.turn ≤ length given
-  pub fair : (n t : ℕ) → PutIn problem book.kept n t → GivenIn given n (t + n * ratio problem) ⊎ Waits problem book (length given) n t
+  pub fair : (n t : ℕ) → WasPut problem book.kept n t → WasGivenBy given n (last_turn problem n t) ⊎ Waits problem book (length given) n t
 
 -- ---- live clauses
 
@@ -262,11 +252,11 @@ module _ (problem : Stated) (old : Run) (seen : Seen) (new : Run) (h : Infer pro
           bound b (inr k) = absurd (omega (arith, k.0, b.2))
 
       -- it was given in time, is given now in time, or waits still
-      step : GivenIn old.given n (t + n * ratio problem) ⊎ Waits problem old.book (length old.given) n t → GivenIn rows_now n (t + n * ratio problem) ⊎ Waits problem h.book (length rows_now) n t
+      step : WasGivenBy old.given n (last_turn problem n t) ⊎ Waits problem old.book (length old.given) n t → WasGivenBy rows_now n (last_turn problem n t) ⊎ Waits problem h.book (length rows_now) n t
       step (inl k) = inl (k.0, in_first k.0 old.given (new_row ∷ []) k.1, k.2, k.3)
       step (inr w) = by (nat_eq (h.given).number n) refl
         where
-          by : (b : Bool) → nat_eq (h.given).number n ≡ b → GivenIn rows_now n (t + n * ratio problem) ⊎ Waits problem h.book (length rows_now) n t
+          by : (b : Bool) → nat_eq (h.given).number n ≡ b → WasGivenBy rows_now n (last_turn problem n t) ⊎ Waits problem h.book (length rows_now) n t
           by true e =
               let same = eqb-true (h.given).number n e in
               inl (
@@ -297,12 +287,12 @@ module _ (problem : Stated) (old : Run) (seen : Seen) (new : Run) (h : Infer pro
     infer_fair = record { numbers = numbers_now; positive = positive_now; rows = kept_now; turns = turns_now; fair = put }
       where
         row_put : (n t : ℕ) (r : KeptRow) → r.number ≡ n → r.turn ≡ t → Contains (old.book).kept r ⊎ ((r.turn ≡ length old.given + 1) × IsNew problem old.book h.book r.number)
-            → GivenIn rows_now n (t + n * ratio problem) ⊎ Waits problem h.book (length rows_now) n t
+            → WasGivenBy rows_now n (last_turn problem n t) ⊎ Waits problem h.book (length rows_now) n t
         row_put n t r number turn (inl k) = step n t (let less = fair.rows r k in omega (arith, number)) (fair.fair n t (inr (r, k, number, turn)))
         row_put n t r number turn (inr k) =
             inr (subst (λ (s : ℕ). Waits problem h.book (length rows_now) n s) (sym k.0 ∙ turn)
             (subst (λ (m : ℕ). Waits problem h.book (length rows_now) m (length old.given + 1)) number (fresh r.number k.1)))
 
-        put : (n t : ℕ) → PutIn problem (h.book).kept n t → GivenIn rows_now n (t + n * ratio problem) ⊎ Waits problem h.book (length rows_now) n t
+        put : (n t : ℕ) → WasPut problem (h.book).kept n t → WasGivenBy rows_now n (last_turn problem n t) ⊎ Waits problem h.book (length rows_now) n t
         put n t (inl k) = step n t (let less = input_number problem old.book k.0 k.1 in omega (arith, k.3)) (fair.fair n t (inl k))
         put n t (inr k) = row_put n t k.0 k.2 k.3 (infer_changes.kept k.0 k.1)

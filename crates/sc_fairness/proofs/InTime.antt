@@ -1,5 +1,5 @@
 -- Every clause leaves sos in time: the start, the turns of a run, and its end.
-use Rattle.std.proofs.Common.{◌≡◌, ◌≢◌, ◌∙◌, sym, ap, subst, refl, ℕ, ◌+◌, ◌*◌, ◌/◌, ◌<◌, ◌≤◌, ◌⊎◌, inl, inr, List, [], ◌∷◌, ◌++◌, length, Option, Some, arith}
+use Rattle.std.proofs.Common.{◌≡◌, ◌∙◌, sym, ap, subst, refl, ℕ, ◌+◌, ◌<◌, ◌≤◌, ◌⊎◌, inl, inr, List, [], ◌∷◌, ◌++◌, length, Option, Some, arith}
 use Rattle.std.specs.List.{Contains}
 use Rattle.std.proofs.lemmas.List.{length-append}
 use Rattle.sc_data.specs.declared.Numbered.{Numbered}
@@ -9,18 +9,18 @@ use Rattle.sc_reading.specs.declared.settings.Home.{Home}
 use Rattle.sc_reading.specs.declared.settings.Home.TheVariants.{Usable, Sos, Passive}
 use Rattle.sc_rules.specs.declared.row.GivenRow.{GivenRow}
 use Rattle.sc_rules.specs.declared.row.KeptRow.{KeptRow}
-use Rattle.sc_rules.specs.Book.{Book, live, next_number, with_derived}
+use Rattle.sc_rules.specs.Book.{Book, live, next_number}
 use Rattle.sc_rules.specs.Start.{input_clauses, IsAtHome, OpensBook, Starts}
 use Rattle.sc_rules.specs.Selection.{Seen, ratio}
-use Rattle.sc_rules.specs.Turn.{Run, Infer, Turns}
-use Rattle.sc_rules.specs.Run.{Goes, GoesOver, started, IsRun}
-use Rattle.sc_rules.proofs.FilterLaws.{filter_within, in_either, in_first}
+use Rattle.sc_rules.specs.Turn.{Run, Infer}
+use Rattle.sc_rules.specs.Run.{Goes, GoesOver, started}
+use Rattle.sc_rules.proofs.FilterLaws.{filter_within, in_first}
 use Rattle.sc_rules.proofs.DerivationLaws.{compared}
 use Rattle.sc_rules.proofs.SoundProcessing.{where_either}
-use Rattle.sc_fairness.specs.LeavesInTime.{WasPut, WasGivenBy, IsDeleted, IsDeletedBy, LeavesInTime}
-use Rattle.sc_fairness.proofs.Counting.{Bears, below, below_less, all_come}
+use Rattle.sc_fairness.specs.LeavesInTime.{WasPut, WasGivenBy, IsDeleted, IsDeletedBy, last_turn, LeavesInTime}
+use Rattle.sc_fairness.proofs.Counting.{Bears, below_less, all_come}
 use Rattle.sc_fairness.proofs.BookChanges.{IsNew}
-use Rattle.sc_fairness.proofs.Fairness.{new_row, PutIn, GivenIn, Waits, IsFair, live_cases, input_positive, input_number, infer_changes, infer_fair}
+use Rattle.sc_fairness.proofs.Fairness.{new_row, Waits, IsFair, live_cases, input_positive, input_number, infer_changes, infer_fair}
 
 module _ (problem : Stated) where
   -- ---- the start
@@ -86,7 +86,7 @@ module _ (problem : Stated) where
         bound = λ b. let less = below_less book.sos p.number positive (input_positive problem p there) in omega arith;
       }
 
-      fair : (n t : ℕ) → PutIn problem book.kept n t → GivenIn [] n (t + n * ratio problem) ⊎ Waits problem book 0 n t
+      fair : (n t : ℕ) → WasPut problem book.kept n t → WasGivenBy [] n (last_turn problem n t) ⊎ Waits problem book 0 n t
       fair n t (inl k) =
           inr (subst (λ (s : ℕ). Waits problem book 0 n s) (sym k.4) (subst (λ (m : ℕ). Waits problem book 0 m 0) k.3 (waits k.0 k.1 k.2)))
       fair n t (inr k) = absurd (no_row k.0 k.1)
@@ -94,22 +94,22 @@ module _ (problem : Stated) where
   -- ---- the turns
 
   -- at most one clause is given, given rows stay, and rows of kept clauses that join are of a later turn
-  record GoesOn (old new : Run) : Type 0 where
+  record RowsGrow (old new : Run) : Type 0 where
     no_less : length old.given ≤ length new.given
     given : (row : GivenRow) → Contains old.given row → Contains new.given row
     kept : (row : KeptRow) → Contains (new.book).kept row → Contains (old.book).kept row ⊎ (length old.given < row.turn)
 
   -- such a turn keeps the law
-  record Keeps (old new : Run) : Type 0 where
-    goes : GoesOn old new
+  record StaysFair (old new : Run) : Type 0 where
+    goes : RowsGrow old new
     by_one : length new.given ≤ length old.given + 1
     fair : IsFair problem old.book old.given → IsFair problem new.book new.given
 
-  same_on : (old : Run) → GoesOn old old
+  same_on : (old : Run) → RowsGrow old old
   same_on old = record { no_less = omega arith; given = λ row h. h; kept = λ row h. inl h }
 
   -- the outcome of a run plays no part
-  unmoved : (old new : Run) → new.book ≡ old.book → new.given ≡ old.given → Keeps old new
+  unmoved : (old new : Run) → new.book ≡ old.book → new.given ≡ old.given → StaysFair old new
   unmoved old new book given = record {
     goes = record {
       no_less = let same = ap length given in omega arith;
@@ -120,8 +120,8 @@ module _ (problem : Stated) where
     fair = λ fair. subst (λ (b : Book). IsFair problem b new.given) (sym book) (subst (λ (rows : List GivenRow). IsFair problem old.book rows) (sym given) fair);
   }
 
-  infer_keeps : (old : Run) (seen : Seen) (new : Run) → Infer problem (length old.given + 1) old seen new → Keeps old new
-  infer_keeps old seen new h = subst (Keeps old) (sym h.goes_to) (record {
+  infer_keeps : (old : Run) (seen : Seen) (new : Run) → Infer problem (length old.given + 1) old seen new → StaysFair old new
+  infer_keeps old seen new h = subst (StaysFair old) (sym h.goes_to) (record {
     goes = record {
       no_less = omega (arith, length-append old.given (new_row problem old seen new h ∷ []));
       given = λ r k. in_first r old.given (new_row problem old seen new h ∷ []) k;
@@ -135,10 +135,10 @@ module _ (problem : Stated) where
       by r (inl k) = inl k
       by r (inr k) = inr (omega (arith, k.0))
 
-  still : (old new other : Run) → other.book ≡ old.book → other.given ≡ old.given → new ≡ other → Keeps old new
+  still : (old new other : Run) → other.book ≡ old.book → other.given ≡ old.given → new ≡ other → StaysFair old new
   still old new other book given e = unmoved old new (ap (λ (r : Run). r.book) e ∙ book) (ap (λ (r : Run). r.given) e ∙ given)
 
-  goes_keeps : (old : Run) (look : Seen) (new : Run) → Goes problem old look new → Keeps old new
+  goes_keeps : (old : Run) (look : Seen) (new : Run) → Goes problem old look new → StaysFair old new
   goes_keeps old look new =
       where_either (still old new old refl refl)
       (where_either (λ e. still old new _ refl refl e)
@@ -146,8 +146,8 @@ module _ (problem : Stated) where
       (where_either (λ e. still old new _ refl refl e)
       (infer_keeps old look new))))
 
-  over_on : (looks : List Seen) (old new : Run) → GoesOver problem old looks new → GoesOn old new
-  over_on [] old new h = subst (GoesOn old) (sym h) (same_on old)
+  over_on : (looks : List Seen) (old new : Run) → GoesOver problem old looks new → RowsGrow old new
+  over_on [] old new h = subst (RowsGrow old) (sym h) (same_on old)
   over_on (look ∷ looks) old new h =
       let one = (goes_keeps old look h.0 h.1).goes in
       let two = over_on looks h.0 new h.2 in
@@ -192,7 +192,7 @@ module _ (problem : Stated) where
       by rest one (inr (inr less)) = absurd (omega arith)
 
   -- what waits isn't live when its time has come
-  waits_no_longer : (book : Book) (s n t : ℕ) → t + n * ratio problem ≤ s → Waits problem book s n t → (p : Numbered) → Contains (live book) p → p.number ≢ n
+  waits_no_longer : (book : Book) (s n t : ℕ) → last_turn problem n t ≤ s → Waits problem book s n t → IsDeleted book n
   waits_no_longer book s n t late w p h e = by (live_cases book p h)
     where
       by : Contains book.usable p ⊎ Contains book.sos p ⊎ Contains book.passive p → ⊥
@@ -209,13 +209,13 @@ leaves_in_time problem looks run n t h put turn = by (here.fair n t (earlier put
     start : IsFair problem h.book []
     start = opened_fair problem h.book (starts_so problem h.book h.goal h.starts)
 
-    -- the run right after turn t + n * r
-    reached : Passes problem (started h.book h.goal) looks run (t + n * ratio problem)
+    -- the run right after the last turn
+    reached : Passes problem (started h.book h.goal) looks run (last_turn problem n t)
     reached =
         let last = (over_fair problem looks (started h.book h.goal) run start h.goes).turns turn.0 turn.1 in
-        passes problem looks (started h.book h.goal) run (t + n * ratio problem) (omega arith) (omega (arith, last, turn.2)) h.goes
+        passes problem looks (started h.book h.goal) run (last_turn problem n t) (omega arith) (omega (arith, last, turn.2)) h.goes
 
-    on : GoesOn problem reached.mid run
+    on : RowsGrow problem reached.mid run
     on = over_on problem reached.later reached.mid run reached.after
 
     here : IsFair problem (reached.mid).book (reached.mid).given
@@ -226,12 +226,12 @@ leaves_in_time problem looks run n t h put turn = by (here.fair n t (earlier put
     row_earlier r e (inl k) = k
     row_earlier r e (inr less) = absurd (omega (arith, less, e, reached.there))
 
-    earlier : WasPut problem run n t → PutIn problem ((reached.mid).book).kept n t
+    earlier : WasPut problem (run.book).kept n t → WasPut problem ((reached.mid).book).kept n t
     earlier (inl k) = inl k
     earlier (inr k) = inr (k.0, row_earlier k.0 k.3 (on.kept k.0 k.1), k.2, k.3)
 
-    by : GivenIn (reached.mid).given n (t + n * ratio problem) ⊎ Waits problem (reached.mid).book (length (reached.mid).given) n t
-        → WasGivenBy run n (t + n * ratio problem) ⊎ IsDeletedBy problem looks n (t + n * ratio problem)
+    by : WasGivenBy (reached.mid).given n (last_turn problem n t) ⊎ Waits problem (reached.mid).book (length (reached.mid).given) n t
+        → WasGivenBy run.given n (last_turn problem n t) ⊎ IsDeletedBy problem looks n (last_turn problem n t)
     by (inl k) = inl (k.0, on.given k.0 k.1, k.2, k.3)
     by (inr w) =
         inr (

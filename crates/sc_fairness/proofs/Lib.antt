@@ -2,3 +2,4 @@ pub mod Counting
 pub mod BookChanges
 pub mod Fairness
 pub mod InTime
+pub mod BoundMet
