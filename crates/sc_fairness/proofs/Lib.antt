@@ -1,0 +1,5 @@
+pub mod Counting
+pub mod BookChanges
+pub mod Fairness
+pub mod InTime
+pub mod BoundMet
