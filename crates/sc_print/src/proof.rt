@@ -10,7 +10,7 @@ use sqlite_items::Items;
 use std::alloc::Global;
 
 /// The lines, numbered from 1.
-fn numbered_lines(sig: &Signature, lines: &[Line], text: &mut Vec<u8>) -> Mem<()>
+pub fn numbered_lines(sig: &Signature, lines: &[Line], text: &mut Vec<u8>) -> Mem<()>
     ensures { OnOk result (text.new.items ≡ text.old.items ++ lines_text sig.now 1 lines.now) }
 {
     for (i, l) in lines.iter().enumerate() {
