@@ -27,7 +27,7 @@ fn heading(finder: u64, place: u64, size: u8, text: &mut Vec<u8>) -> Mem<()>
 fn version(sig: &Signature, finder: u64, place: u64, v: &VersionText, text: &mut Vec<u8>) -> Mem<()>
     ensures { OnOk result (text.new.items ≡ text.old.items ++ version_rows sig.now finder place (version_value v.now)) }
 {
-    heading(finder, place, v.tables.size(), text)?;
+    heading(finder, place, v.size, text)?;
     table_rows(sig, v.tables.tables(), text)?;
     numbers_row("claims", v.claims.as_slice(), text)
 }

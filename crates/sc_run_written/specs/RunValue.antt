@@ -33,7 +33,7 @@ entries_of t = map (λ (table : Table). table.entries) t.tables
 
 -- the version with the entries of its tables
 abbrev pub version_value : VersionText → VersionValue
-version_value v = record { size = v.tables.size; entries = entries_of v.tables; claims = v.claims }
+version_value v = record { size = v.size; entries = entries_of v.tables; claims = v.claims }
 
 -- the run with the entries of its versions' tables
 abbrev pub run_value : RunText → RunValue

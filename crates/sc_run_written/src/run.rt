@@ -5,7 +5,7 @@ use sc_interp::{Tables, Truth, VersionName};
 use sc_rules::{GivenRow, KeptRow, Outcome};
 use sqlite_items::Items;
 
-/// How a finder ended: it had found all that it could, it was stopped, its work was too wide, or memory was wanting.
+/// How a finder ended: all its candidates were worked, it was stopped, its size was too wide, or it found no memory.
 #[derive(Clone, Copy, Debug, PartialEq, Eq)]
 pub enum FinderEnd {
     Done,
@@ -22,15 +22,17 @@ pub struct MarkRow {
     pub truth: Truth,
 }
 
-/// A version: its tables, and the numbers of the input clauses that they make true.
+/// A version: its size, its tables, which are of that size, and the numbers of the input clauses that they make true.
 #[derive(Debug, Drop)]
 pub struct VersionText {
+    pub size: u8,
     pub tables: Tables,
     pub claims: Items<u32>,
 }
 
-/// A run: the ratio of selection by weight, the versions that each finder published, the rows of given and kept
-/// clauses, how each finder and the run ended, and, where that was with a proof, its lines and their marks.
+/// A run: in every how many turns the oldest clause was given, the versions that each finder published, the rows of
+/// given and kept clauses, how each finder and the run ended, and, where that was with a proof, its lines and their
+/// marks.
 #[derive(Debug, Drop)]
 pub struct RunText {
     pub ratio: u32,
