@@ -17,3 +17,6 @@ mod words;
 
 pub use model::print_model;
 pub use run::print_run;
+
+#[cfg(test)]
+mod tests;

@@ -11,12 +11,13 @@ use Rattle.sc_run_written.specs.declared.run.MarkRow.{MarkRow}
 use Rattle.sc_run_written.specs.declared.run.VersionText.{VersionText}
 use Rattle.sc_run_written.specs.declared.run.RunText.{RunText}
 
--- Of tables, the entries of each symbol other than `=`, in the order of the symbols.
+-- a version, with the entries of each symbol other than `=` in the order of the symbols
 pub record VersionValue : Type 0 where
   pub size : ℕ
   pub entries : List (List ℕ)
   pub claims : List ℕ
 
+-- a run: the versions of each finder, what was given and kept, how all ended, and the proof with its marks
 pub record RunValue : Type 0 where
   pub ratio : ℕ
   pub lists : List (List VersionValue)
