@@ -7,7 +7,7 @@ use itoa::Buffer;
 use sc_data::SymId;
 use sc_term::{Mem, Signature};
 
-/// The decimal digits of the number.
+/// Appends the decimal digits of the number.
 pub fn number(n: u64, text: &mut Vec<u8>) -> Mem<()>
     ensures { OnOk result (text.new.items ≡ text.old.items ++ decimal n) }
 {

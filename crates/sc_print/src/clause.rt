@@ -37,7 +37,7 @@ fn joined_literals(sig: &Signature, literals: &[Literal], text: &mut Vec<u8>) ->
     Ok(())
 }
 
-/// `$F` for the empty clause, or the literals with ` | ` between them.
+/// Appends the clause (`clause_text`): `$F` for the empty one, or the literals with ` | ` between them.
 pub fn clause(sig: &Signature, c: &Clause, text: &mut Vec<u8>) -> Mem<()>
     ensures { OnOk result (text.new.items ≡ text.old.items ++ clause_text sig.now c.now) }
 {

@@ -9,8 +9,8 @@ use sc_term::{Mem, Signature};
 use sqlite_items::Items;
 use std::alloc::Global;
 
-/// The lines, numbered from 1.
-fn numbered_lines(sig: &Signature, lines: &[Line], text: &mut Vec<u8>) -> Mem<()>
+/// Appends the lines of a proof (`lines_text`), numbered from 1.
+pub fn numbered_lines(sig: &Signature, lines: &[Line], text: &mut Vec<u8>) -> Mem<()>
     ensures { OnOk result (text.new.items ≡ text.old.items ++ lines_text sig.now 1 lines.now) }
 {
     for (i, l) in lines.iter().enumerate() {

@@ -1,0 +1,3 @@
+pub mod RunValue
+pub mod ModelText
+pub mod RunText
