@@ -1,0 +1,5 @@
+pub mod CountLaws
+pub mod BecomingLaws
+pub mod OrientLaws
+pub mod FitLaws
+pub mod FindLaws

@@ -1,0 +1,5 @@
+pub mod Counting
+pub mod Becoming
+pub mod Orienting
+pub mod Fitting
+pub mod Finding

@@ -1,0 +1,15 @@
+//! Rewriting by demodulators, orientation of equations and unit deletion.
+#![tactic(auto)]
+
+mod becoming;
+mod count;
+mod equation;
+mod extend;
+mod find;
+mod fit;
+mod orientation;
+mod redex;
+
+pub use becoming::becomes_demod;
+pub use orientation::orient;
+pub use redex::has_redex;
