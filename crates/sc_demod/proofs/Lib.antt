@@ -3,3 +3,6 @@ pub mod BecomingLaws
 pub mod OrientLaws
 pub mod FitLaws
 pub mod FindLaws
+pub mod PartLaws
+pub mod LeastLaws
+pub mod CutLaws

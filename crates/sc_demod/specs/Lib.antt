@@ -3,3 +3,5 @@ pub mod Becoming
 pub mod Orienting
 pub mod Fitting
 pub mod Finding
+pub mod Standing
+pub mod Deleting

@@ -8,8 +8,11 @@ mod extend;
 mod find;
 mod fit;
 mod orientation;
+mod part;
 mod redex;
+mod unit;
 
 pub use becoming::becomes_demod;
 pub use orientation::orient;
 pub use redex::has_redex;
+pub use unit::unit_delete;
