@@ -6,3 +6,7 @@ pub mod FindLaws
 pub mod PartLaws
 pub mod LeastLaws
 pub mod CutLaws
+pub mod ReplaceLaws
+pub mod RewriteLaws
+pub mod RewriteSteps
+pub mod ChangeLaws

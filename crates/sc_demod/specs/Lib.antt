@@ -5,3 +5,4 @@ pub mod Fitting
 pub mod Finding
 pub mod Standing
 pub mod Deleting
+pub mod Rewriting
