@@ -1,5 +1,5 @@
 -- An equation becomes a demodulator where its sides decrease.
-use Rattle.std.proofs.Common.{◌≡◌, ◌∙◌, sym, ap, subst, ℕ, ◌+◌, ◌<◌, ◌^◌, ◌↔◌, List, [], ◌∷◌, sum, map, Bool, IsTrue, arith}
+use Rattle.std.proofs.Common.{◌≡◌, ◌∙◌, sym, ap, subst, ◌+◌, ◌<◌, ◌↔◌, List, sum, map, Bool, IsTrue, arith}
 use Rattle.sc_data.specs.declared.Term.{Term}
 use Rattle.sc_data.specs.declared.Literal.{Literal}
 use Rattle.sc_data.specs.declared.Clause.{Clause}

@@ -1,49 +1,24 @@
 -- The change at a redex, as the code makes it.
-use Rattle.std.proofs.Common.{◌≡◌, ◌∙◌, sym, ap, subst, refl, ℕ, zero, suc, ◌+◌, ◌-◌, ◌<◌, ◌≤◌, ◌⊎◌, inl, inr, max, List, [], ◌∷◌, ◌++◌, map, length, length-append, get_or, nat_eq, false, true, Option, Some, None, arith}
-use Rattle.std.specs.Prelude.{IsSomeAnd}
-use Rattle.std.specs.List.{All, AllByRecursion, AllPairs, Contains, list_any, fold}
-use Rattle.std.proofs.lemmas.List.{append-nil, get_or_default}
-use Rattle.sc_data.specs.declared.SymId.{SymId}
-use Rattle.sc_data.specs.declared.Term.{Term, Var}
-use Rattle.sc_data.specs.declared.Term.TheVariants.{App}
-use Rattle.sc_data.specs.declared.Literal.{Literal}
+use Rattle.std.proofs.Common.{◌≡◌, ◌∙◌, sym, ap, subst, ℕ, ◌<◌, ◌⊎◌, inl, inr, List, [], ◌∷◌, ◌++◌, length, get_or, Some}
+use Rattle.std.specs.List.{All, AllPairs, Contains}
+use Rattle.std.proofs.lemmas.List.{get_or_default}
+use Rattle.sc_data.specs.declared.Term.{Term}
 use Rattle.sc_data.specs.declared.Clause.{Clause}
 use Rattle.sc_data.specs.declared.Line.{Line}
 use Rattle.sc_data.specs.declared.Numbered.{Numbered}
 use Rattle.sc_data.specs.declared.Step.TheVariants.{Para}
 use Rattle.sc_data.specs.declared.Side.TheVariants.{Left}
-use Rattle.sc_data.specs.Numbering.{numbered, with_element, without}
-use Rattle.sc_data.specs.Path.{IsReplaced}
-use Rattle.sc_data.specs.Term.{value_of, joined, largest, term_width, term_variables, term_instance}
-use Rattle.sc_data.specs.Clause.{width, literal_width, variables, instance, literal_instance, IsWithinLimits}
-use Rattle.sc_data.specs.Refuted.{equation}
-use Rattle.sc_data.specs.Proof.{AreSteps, Follows, clause_of, IsParamodulant, chosen, other}
-use Rattle.sc_data.proofs.TermLaws.{term_ind, width-Var, width-App}
-use Rattle.sc_data.proofs.TermSteps.{variables-Var, variables-App}
-use Rattle.sc_data.proofs.SubstitutionLaws.{term_laws, all_split, all_join}
+use Rattle.sc_data.specs.Term.{term_instance}
+use Rattle.sc_data.specs.Clause.{width, instance, IsWithinLimits}
 use Rattle.sc_steps.specs.Derivation.{last_clause}
-use Rattle.sc_steps.proofs.LineLaws.{some_so, clause_of_end}
-use Rattle.sc_unify.proofs.TermFacts.{all_so}
-use Rattle.sc_unify.proofs.Rows.{at_least}
-use Rattle.sc_rules.specs.Order.{IsLeast}
-use Rattle.sc_rules.specs.Derivation.{Adds, AddsPart, AreTermsTo}
-use Rattle.sc_rules.specs.Rewriting.{number_of, IsEquation, Fits, IsRedex, IsFirstRedex, IsBeforeInPostOrder, IsDemodulator, RewritesOnce}
-use Rattle.sc_rules.proofs.DerivationLaws.{compared, at_found}
-use Rattle.sc_rules.proofs.FilterLaws.{in_first, in_either}
+use Rattle.sc_rules.specs.Derivation.{AddsPart, AreTermsTo}
+use Rattle.sc_rules.specs.Rewriting.{IsEquation, IsDemodulator}
+use Rattle.sc_rules.proofs.FilterLaws.{in_either}
 use Rattle.sc_rules.proofs.NestLaws.{pairs_append}
 use Rattle.sc_rules.proofs.Enumerations.{in_one, pairs_of_one}
-use Rattle.sc_rules.proofs.SimplifyLaws.{NumbersTell, least_one, subterm_one, same_sides}
-use Rattle.sc_rules.proofs.StepLaws.{follows_one}
-use Rattle.sc_rules.proofs.CheckLaws.{part_checks, adds_checks}
-use Rattle.sc_rules.specs.Paramodulation.{IsCompound}
-use Rattle.sc_data.specs.Path.{IsSubtermAt}
-use Rattle.sc_demod.specs.Fitting.{IsFit}
-use Rattle.sc_demod.specs.Finding.{FindsIn, FindsNoneIn}
-use Rattle.sc_demod.specs.Standing.{Agrees}
+use Rattle.sc_rules.proofs.SimplifyLaws.{same_sides}
+use Rattle.sc_demod.specs.Finding.{FindsIn}
 use Rattle.sc_demod.specs.Rewriting.{AreDemods, AllAgree, IsPutIn, IsChange, IsIrreducible, IsRewritten}
-use Rattle.sc_demod.proofs.FindLaws.{is_first, is_redex, no_redex}
-use Rattle.sc_demod.proofs.LeastLaws.{least_of_first}
-use Rattle.sc_demod.proofs.PartLaws.{part_clause, last_stays}
 use Rattle.sc_demod.proofs.RewriteLaws.{fit_width, terms_of_fit, value_of_fit}
 use Rattle.sc_demod.proofs.RewriteSteps.{listed, heavy_part, heavy_result, is_rewritten}
 

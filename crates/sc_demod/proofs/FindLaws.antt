@@ -1,6 +1,6 @@
 -- The first redex of a term, of its arguments and of a clause.
-use Rattle.std.proofs.Common.{◌≡◌, ◌∙◌, sym, ap, subst, refl, ℕ, zero, suc, ◌+◌, ◌-◌, ◌<◌, ◌≤◌, ◌⊎◌, inl, inr, List, [], ◌∷◌, length, get_or, slice_get, Result, Ok, Err, Option, Some, None, IfOk, MatchOption, arith}
-use Rattle.std.specs.List.{AllWithin, Contains}
+use Rattle.std.proofs.Common.{◌≡◌, ◌∙◌, sym, ap, subst, refl, ℕ, zero, suc, ◌+◌, ◌-◌, ◌<◌, inl, inr, List, [], ◌∷◌, length, get_or, slice_get, Result, Ok, Err, Option, Some, None, IfOk, MatchOption, arith}
+use Rattle.std.specs.List.{AllWithin}
 use Rattle.sc_data.specs.declared.SymId.{SymId}
 use Rattle.sc_data.specs.declared.Term.{Term, Var}
 use Rattle.sc_data.specs.declared.Term.TheVariants.{App}
@@ -12,10 +12,9 @@ use Rattle.sc_data.specs.Path.{IsSubtermAt}
 use Rattle.sc_data.proofs.TermLaws.{App-injective}
 use Rattle.sc_steps.proofs.LineLaws.{number_at, number_within}
 use Rattle.sc_steps.proofs.ListLaws.{at_number}
-use Rattle.sc_rules.specs.Rewriting.{Fits, IsRedex, IsFirstRedex, HasRedex, IsBeforeInPostOrder}
-use Rattle.sc_rules.proofs.NumberLaws.{numbered-suc}
+use Rattle.sc_rules.specs.Rewriting.{Fits, IsRedex, IsFirstRedex, IsBeforeInPostOrder}
 use Rattle.sc_demod.specs.declared.find.Redex.{Redex}
-use Rattle.sc_demod.specs.Fitting.{IsFit, IsFirstFit, FitsNone}
+use Rattle.sc_demod.specs.Fitting.{IsFirstFit, FitsNone}
 use Rattle.sc_demod.specs.Finding.{IsWithin, IsReducible, FindsNone, Finds, FindsIn, FindsNoneIn}
 
 -- ---- elements by their place

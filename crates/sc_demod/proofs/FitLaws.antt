@@ -1,12 +1,10 @@
 -- A demodulator fits a term where its left side can be made the term.
-use Rattle.std.proofs.Common.{◌≡◌, ◌∙◌, sym, ap, subst, refl, ℕ, ◌<◌, max, List, [], ◌∷◌, length, get_or, map, Result, Ok, Err, Option, Some, None, IfOk, MatchOption, nat_eq, false, arith}
+use Rattle.std.proofs.Common.{◌∙◌, sym, ap, List, get_or, Result, Ok, Err, Option, Some, None, IfOk, MatchOption, nat_eq, arith}
 use Rattle.std.specs.List.{list_any}
 use Rattle.std.proofs.lemmas.List.{append-nil}
-use Rattle.sc_data.specs.declared.Term.{Term, Var}
-use Rattle.sc_data.specs.declared.Literal.{Literal}
-use Rattle.sc_data.specs.declared.Clause.{Clause}
+use Rattle.sc_data.specs.declared.Term.{Term}
 use Rattle.sc_data.specs.declared.Numbered.{Numbered}
-use Rattle.sc_data.specs.Term.{term_width, term_variables, term_instance, value_of}
+use Rattle.sc_data.specs.Term.{term_variables, term_instance, value_of}
 use Rattle.sc_data.specs.Refuted.{Atom, atom_of}
 use Rattle.sc_rules.specs.Paramodulation.{atom_with}
 use Rattle.sc_rules.specs.Rewriting.{IsEquation, Fits}

@@ -10,3 +10,4 @@ pub mod ReplaceLaws
 pub mod RewriteLaws
 pub mod RewriteSteps
 pub mod ChangeLaws
+pub mod FixtureLaws

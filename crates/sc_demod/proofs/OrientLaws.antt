@@ -1,5 +1,5 @@
 -- What is flipped checks where it checked before.
-use Rattle.std.proofs.Common.{◌≡◌, sym, subst, List, [], ◌∷◌, ◌++◌, inl, inr, length, Result, Ok, Err, IfOk, Option, Some, None}
+use Rattle.std.proofs.Common.{◌≡◌, sym, subst, List, inl, inr, length, Result, Ok, Err, IfOk, Option, Some, None}
 use Rattle.std.specs.Prelude.{IsSomeAnd}
 use Rattle.sc_data.specs.declared.Clause.{Clause}
 use Rattle.sc_data.specs.declared.Line.{Line}

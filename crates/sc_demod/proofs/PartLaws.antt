@@ -1,13 +1,11 @@
 -- The lines of a clause and of its instance.
-use Rattle.std.proofs.Common.{◌≡◌, ◌∙◌, sym, ap, subst, refl, ℕ, zero, suc, ◌+◌, ◌-◌, ◌<◌, ◌≤◌, ◌⊎◌, inl, inr, List, [], ◌∷◌, ◌++◌, append_assoc, length, length-append, get_or, take, Result, Ok, Err, IfOk, Option, Some, None, option_map, arith}
-use Rattle.std.specs.Prelude.{IsSomeAnd}
+use Rattle.std.proofs.Common.{◌≡◌, ◌∙◌, sym, ap, subst, refl, ℕ, ◌+◌, ◌-◌, ◌<◌, inl, inr, List, [], ◌∷◌, ◌++◌, append_assoc, length, length-append, get_or, take, Some, arith}
 use Rattle.std.specs.List.{AllWithin, Contains}
 use Rattle.std.proofs.lemmas.List.{append-nil}
 use Rattle.sc_data.specs.declared.Term.{Term}
 use Rattle.sc_data.specs.declared.Clause.{Clause}
 use Rattle.sc_data.specs.declared.Line.{Line}
 use Rattle.sc_data.specs.declared.Numbered.{Numbered}
-use Rattle.sc_data.specs.declared.Step.{Step}
 use Rattle.sc_data.specs.declared.Step.TheVariants.{Input, Instance}
 use Rattle.sc_data.specs.Numbering.{numbered}
 use Rattle.sc_data.specs.Clause.{instance, width}
@@ -17,7 +15,7 @@ use Rattle.sc_steps.proofs.LineLaws.{number_within, some_so, map_some, clause_in
 use Rattle.sc_steps.proofs.ListLaws.{some_and}
 use Rattle.sc_rules.specs.Order.{Where}
 use Rattle.sc_rules.specs.Derivation.{Adds, IsFirstInput, AddsInput, AreTermsTo, AddsPart}
-use Rattle.sc_demod.specs.Standing.{AllStand, Agrees, ChecksWith}
+use Rattle.sc_demod.specs.Standing.{Agrees, ChecksWith}
 use Rattle.sc_demod.proofs.FindLaws.{number_got, place_of}
 
 -- ---- the first input line

@@ -1,8 +1,7 @@
 -- A subterm replaced, from its parts.
-use Rattle.std.proofs.Common.{◌≡◌, ◌∙◌, sym, ap, subst, refl, ℕ, suc, ◌+◌, ◌-◌, ◌<◌, List, [], ◌∷◌, ◌++◌, append_assoc, length, get_or, set, slice_get, take, drop, Result, Ok, Err, IfOk, Option, Some, None, arith}
+use Rattle.std.proofs.Common.{◌≡◌, ◌∙◌, sym, ap, subst, ℕ, suc, ◌+◌, ◌-◌, ◌<◌, List, [], ◌∷◌, ◌++◌, append_assoc, length, get_or, take, drop, Result, Ok, Err, IfOk, Some, arith}
 use Rattle.std.specs.Prelude.{slice_set}
 use Rattle.sc_data.specs.declared.Term.{Term}
-use Rattle.sc_data.specs.declared.Term.TheVariants.{App}
 use Rattle.sc_data.specs.Numbering.{numbered, with_element}
 use Rattle.sc_data.specs.Path.{IsSubtermAt, IsReplaced}
 use Rattle.sc_steps.specs.Replacement.{IsTermReplaced}

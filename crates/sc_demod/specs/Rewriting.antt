@@ -1,5 +1,5 @@
 -- A clause rewritten once.
-use Rattle.std.specs.Prelude.{◌≡◌, ◌<◌, ℕ, List, Contains, All, AllPairs, Some}
+use Rattle.std.specs.Prelude.{◌≡◌, ◌<◌, ℕ, List, Contains, AllPairs, Some}
 use Rattle.sc_data.specs.declared.Term.{Term}
 use Rattle.sc_data.specs.declared.Literal.{Literal}
 use Rattle.sc_data.specs.declared.Clause.{Clause}

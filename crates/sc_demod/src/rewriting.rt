@@ -29,7 +29,8 @@ struct Change {
     after: Clause,
 }
 
-fn is_within_limits(c: &Clause) -> bool
+/// Whether the clause is within the limits on what is made.
+pub fn is_within_limits(c: &Clause) -> bool
     ensures { IsTrue result ↔ IsWithinLimits c.now }
 {
     weight(c) <= MAX_WEIGHT && depth(c) <= MAX_DEPTH

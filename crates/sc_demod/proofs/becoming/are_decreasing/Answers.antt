@@ -1,4 +1,4 @@
-use Rattle.std.proofs.Common.{◌≡◌, ◌<◌, sym, ◌∙◌, arith, true≢false, true, refl}
+use Rattle.std.proofs.Common.{arith}
 use Rattle.sc_data.specs.Term.{term_variables}
 use Rattle.sc_data.proofs.SubstitutionLaws.{all_of}
 use Rattle.sc_demod.specs.Counting.{OccursNoMore}

@@ -1,4 +1,3 @@
-use Rattle.std.proofs.Common.{◌≡◌, sym, ◌∙◌, subst, true≢false}
 use Rattle.sc_demod.proofs.BecomingLaws.{becomes_where}
 use Rattle.sc_demod.proofs.becoming.becomes_demod.Goals as goal
 

@@ -1,6 +1,4 @@
-use Rattle.std.proofs.Common.{◌≡◌, ◌∙◌, sym, subst, ◌+◌, map, take, arith, true≢false}
-use Rattle.std.specs.List.{AllByRecursion}
-use Rattle.sc_data.specs.Term.{joined, term_variables}
+use Rattle.std.proofs.Common.{◌∙◌, sym, true≢false}
 use Rattle.sc_demod.specs.Counting.{OccursNoMore}
 use Rattle.sc_demod.proofs.CountLaws.{holds_at}
 use Rattle.sc_demod.proofs.count.+comparing.Goals as goal

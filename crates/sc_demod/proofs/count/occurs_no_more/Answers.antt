@@ -1,4 +1,4 @@
-use Rattle.std.proofs.Common.{◌≡◌, ◌≤◌, arith}
+use Rattle.std.proofs.Common.{arith}
 use Rattle.std.proofs.lemmas.Bool.{leb-true, le-leb}
 use Rattle.sc_demod.proofs.CountLaws.{occurs_few}
 use Rattle.sc_demod.proofs.count.occurs_no_more.Goals as goal

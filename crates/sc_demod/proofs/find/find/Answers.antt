@@ -1,9 +1,9 @@
-use Rattle.std.proofs.Common.{◌≡◌, ◌∙◌, sym, ap, subst, ◌+◌, MatchOption, arith}
+use Rattle.std.proofs.Common.{◌∙◌, sym, ap, subst, MatchOption, arith}
 use Rattle.std.proofs.lemmas.List.Elements.{AllWithin-more, at_read}
 use Rattle.sc_data.specs.declared.Literal.{Literal}
 use Rattle.sc_data.specs.Path.{IsSubtermAt}
-use Rattle.sc_demod.specs.Finding.{FindsNone, Finds, FindsIn}
-use Rattle.sc_demod.proofs.FindLaws.{found_in_literals, none_in_literals}
+use Rattle.sc_demod.specs.Finding.{FindsNone, Finds}
+use Rattle.sc_demod.proofs.FindLaws.{none_in_literals}
 use Rattle.sc_demod.proofs.find.find.Goals as goal
 
 pub loop-i-preserved : goal.loop-i-preserved

@@ -1,4 +1,4 @@
-use Rattle.std.proofs.Common.{◌≡◌, ◌≤◌, ◌-◌, List, Some}
+use Rattle.std.proofs.Common.{◌≡◌, ◌-◌, List, Some}
 use Rattle.sc_data.specs.declared.Line.{Line}
 use Rattle.sc_data.specs.Clause.{IsWithinLimits}
 use Rattle.sc_rules.specs.Rewriting.{Rewrites}

@@ -1,4 +1,4 @@
-use Rattle.std.proofs.Common.{◌≡◌, ◌∙◌, sym, ap, subst, ℕ, ◌+◌, ◌++◌, ◌∷◌, [], List, length, get_or, arith}
+use Rattle.std.proofs.Common.{◌≡◌, ◌∙◌, sym, ap, subst, ℕ, ◌+◌, ◌++◌, ◌∷◌, [], List, length, get_or}
 use Rattle.sc_data.specs.declared.Clause.{Clause}
 use Rattle.sc_data.specs.declared.Line.{Line}
 use Rattle.sc_data.specs.declared.Literal.{Literal}
@@ -6,7 +6,7 @@ use Rattle.sc_data.specs.declared.Step.TheVariants.{Resolve}
 use Rattle.sc_data.specs.Numbering.{numbered}
 use Rattle.sc_steps.proofs.ListLaws.{some_and}
 use Rattle.sc_rules.specs.Derivation.{AreTermsTo, AddsPart}
-use Rattle.sc_demod.specs.Deleting.{IsRemoval, opposite}
+use Rattle.sc_demod.specs.Deleting.{IsRemoval}
 use Rattle.sc_demod.proofs.CutLaws.{terms_of_removal, is_cut, named}
 use Rattle.sc_demod.proofs.unit.cut.Goals as goal
 

@@ -5,7 +5,7 @@ use Rattle.sc_data.specs.declared.Numbered.{Numbered}
 use Rattle.sc_data.specs.declared.Term.{Term}
 use Rattle.sc_data.specs.Numbering.{numbered}
 use Rattle.sc_steps.proofs.LineLaws.{some_so}
-use Rattle.sc_rules.specs.Order.{Exhausts, ends, goes}
+use Rattle.sc_rules.specs.Order.{ends, goes}
 use Rattle.sc_demod.specs.Deleting.{IsRemoval, IsFirstRemoval, RemovesNone}
 use Rattle.sc_demod.proofs.FindLaws.{number_got}
 use Rattle.sc_demod.proofs.PartLaws.{agrees_with}

@@ -1,4 +1,4 @@
-use Rattle.std.proofs.Common.{◌≡◌, ◌∙◌, sym, length, arith}
+use Rattle.std.proofs.Common.{◌∙◌, sym, arith}
 use Rattle.sc_demod.proofs.CutLaws.{only_one, removal_where}
 use Rattle.sc_demod.proofs.unit.removing.Goals as goal
 
