@@ -1,4 +1,4 @@
-use Rattle.std.proofs.Common.{◌≡◌, ◌∙◌, sym, ap, subst, ◌+◌, ◌∷◌, MatchOption, arith}
+use Rattle.std.proofs.Common.{◌≡◌, sym, subst, ℕ, ◌+◌, ◌∷◌, MatchOption, arith}
 use Rattle.std.proofs.lemmas.List.Elements.{AllWithin-more, at_read}
 use Rattle.sc_data.specs.declared.Term.{Term}
 use Rattle.sc_data.specs.Path.{IsSubtermAt}
@@ -28,7 +28,7 @@ find_in_terms-returns-in-Some t c =
     let one = c.index-args-i.result in
     let r = c.in-Some.inner in
     let told = subst (λ o. MatchOption o (FindsNone demods (IsWithin one)) (λ x. Finds demods (IsWithin one) x.path.items x.place x.terms)) c.in-Some.is c.in_ok-inner.ensures in
-    let path : c.insert.new.self.items ≡ (i + 1) ∷ r.path.items = c.in_ok-insert-in-Some.ensures.items ∙ ap (λ n. n ∷ r.path.items) c.in_ok-number-in-Some.ensures in
+    let path = subst (λ (n : ℕ). c.insert.new.self.items ≡ n ∷ r.path.items) c.in_ok-number-in-Some.ensures c.in_ok-insert-in-Some.ensures.items in
     subst (λ p. Finds demods (IsSubtermAt args) p r.place r.terms) (sym path)
     (found_in_terms demods args i one r.path.items r.place r.terms c.loop-i-test.true c.index-args-i.is c.loop-i.invariant told)
 
