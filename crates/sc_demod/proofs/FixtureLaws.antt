@@ -1,0 +1,28 @@
+-- One `input` line checks over the clause that it names.
+use Rattle.std.proofs.Common.{◌≡◌, ◌∙◌, sym, ap, subst, refl, List, [], ◌∷◌, ◌++◌, Some, arith}
+use Rattle.std.specs.List.{Contains}
+use Rattle.sc_data.specs.declared.Clause.{Clause}
+use Rattle.sc_data.specs.declared.Line.{Line}
+use Rattle.sc_data.specs.declared.Numbered.{Numbered}
+use Rattle.sc_data.specs.declared.Step.TheVariants.{Input}
+use Rattle.sc_data.specs.Numbering.{numbered}
+use Rattle.sc_data.specs.Proof.{AreSteps}
+use Rattle.sc_steps.proofs.LineLaws.{steps_push}
+use Rattle.sc_rules.proofs.Enumerations.{in_one}
+use Rattle.sc_demod.specs.Standing.{AllStand, ChecksWith}
+
+pub checks_two : (start ps : List Numbered) (d : Numbered) (c : Clause) (lines : List Line) → start ≡ [] → ps ≡ start ++ d ∷ [] → d.number ≡ 1 → lines ≡ record { step = Input 2; clause = c } ∷ [] → ChecksWith ps lines
+checks_two start ps d c lines none are first is = (clauses, stand, subst (AreSteps clauses) (sym is) (steps_push clauses [] (record { step = Input 2; clause = c }) nothing refl))
+  where
+    clauses : List Clause
+    clauses = d.clause ∷ c ∷ []
+
+    nothing : AreSteps clauses []
+    nothing k less = absurd (omega (arith, less))
+
+    only : ps ≡ d ∷ []
+    only = are ∙ ap (λ (qs : List Numbered). qs ++ d ∷ []) none
+
+    stand : AllStand clauses ps
+    stand p listed =
+        subst (λ (q : Numbered). numbered clauses q.number ≡ Some q.clause) (in_one d p (subst (λ (qs : List Numbered). Contains qs p) only listed)) (ap (numbered clauses) first)

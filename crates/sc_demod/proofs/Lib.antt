@@ -1,0 +1,13 @@
+pub mod CountLaws
+pub mod BecomingLaws
+pub mod OrientLaws
+pub mod FitLaws
+pub mod FindLaws
+pub mod PartLaws
+pub mod LeastLaws
+pub mod CutLaws
+pub mod ReplaceLaws
+pub mod RewriteLaws
+pub mod RewriteSteps
+pub mod ChangeLaws
+pub mod FixtureLaws

@@ -1,0 +1,19 @@
+use Rattle.std.proofs.Common.{subst, MatchOption, arith}
+use Rattle.std.proofs.lemmas.List.Elements.{AllWithin-more, at_read}
+use Rattle.sc_data.specs.declared.Numbered.{Numbered}
+use Rattle.sc_rules.specs.Simplification.{Removes}
+use Rattle.sc_demod.specs.Deleting.{IsRemoval}
+use Rattle.sc_demod.proofs.unit.first_removing.Goals as goal
+
+pub loop-place-preserved : goal.loop-place-preserved
+loop-place-preserved c =
+    let units = c.args.units.now in
+    let l = c.args.l.now in
+    let i = c.loop-place.place in
+    let u = c.index-units-place.result in
+    let none = λ (u : Numbered). ¬ Removes l u in
+    let here = subst (λ o. MatchOption o (¬ Removes l u) (IsRemoval l u)) c.in-None.is c.in_ok-terms.ensures in
+    AllWithin-more none units 0 i c.loop-place.invariant (at_read units none i u c.loop-place-test.true c.index-units-place.is here)
+
+pub returns : goal.returns
+returns c = λ k d low high. c.loop-place.invariant k d low (omega arith)

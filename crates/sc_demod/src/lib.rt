@@ -1,0 +1,38 @@
+//! Rewriting by demodulators, orientation of equations and unit deletion, as a conclusion is simplified.
+//!
+//! It stands on the definitions `Rewriting` and `Simplification` of sc_rules, on sc_unify's `match_onto`, on sc_term's
+//! instances and weights, and on sc_steps' `Made`, a conclusion with its derivation. Callers may rest on these:
+//! `rewrite`, `orient` and `unit_delete` answer the conclusion that the definitions say (`Rewrites`, `Orients`,
+//! `DeletesOnce` until there is none), with its derivation line for line; what they take by value is spent. Over every
+//! list of clauses that has the demodulators and units at their numbers, and over which the argument's lines check, the
+//! answer's lines check too. `has_redex` and `becomes_demod` answer true exactly where the definitions say.
+//!
+//! The walk to the first redex goes no further than that redex, and as deep as terms are; a redex's path is put together
+//! on the way back. The first demodulator or unit of a list that fits is the least, since their numbers rise. A term is
+//! copied for each pattern whose first symbol it has, as matching is of atoms. Want of memory is the one other answer;
+//! lines, literals and arguments past the last u32 count as that.
+#![tactic(auto)]
+
+mod becoming;
+mod count;
+mod demods;
+mod equation;
+mod extend;
+mod find;
+mod fit;
+mod orientation;
+mod part;
+mod redex;
+mod replace;
+mod rewriting;
+mod unit;
+
+pub use becoming::becomes_demod;
+pub use demods::Demods;
+pub use orientation::orient;
+pub use redex::has_redex;
+pub use rewriting::rewrite;
+pub use unit::unit_delete;
+
+#[cfg(test)]
+mod tests;
