@@ -1,4 +1,5 @@
-//! Proof sections, read from their bytes. `read_proof` answers the lines that the bytes from one on spell over the
+//! Clauses and proof sections as text, and proof sections read back. `print_clause` and `print_proof` are those of
+//! sc_print: exactly the bytes of the definition. `read_proof` answers the lines that the bytes from one on spell over the
 //! symbols of a problem, or where and why they are refused, exactly as `proof_of` of sc_written defines it. Want of
 //! memory alone is free.
 //!
@@ -14,3 +15,4 @@ mod tests;
 
 pub use read::read_proof;
 pub use sc_input::{InputError, InputKind, Place};
+pub use sc_print::{print_clause, print_proof};
