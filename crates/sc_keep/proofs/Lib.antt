@@ -1,0 +1,5 @@
+pub mod LeastLaws
+pub mod SubsumesLaws
+pub mod MergeLaws
+pub mod CanonicalLaws
+pub mod EndLaws

@@ -1,0 +1,4 @@
+pub mod State
+pub mod Least
+pub mod Repeated
+pub mod Canonical
