@@ -3,3 +3,5 @@ pub mod SubsumesLaws
 pub mod MergeLaws
 pub mod CanonicalLaws
 pub mod EndLaws
+pub mod SweepLaws
+pub mod PartLaws

@@ -12,7 +12,10 @@
 mod canonical;
 mod forward;
 mod merge;
+mod parts;
+mod sweep;
 
 pub use canonical::end_canonical;
 pub use forward::least_subsumer;
 pub use merge::merge_all;
+pub use sweep::{leave_out, note_subsumed};
