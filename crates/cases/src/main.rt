@@ -7,8 +7,9 @@
 #![tactic(auto)]
 
 use sc_base::{Sink, SoundSink, SoundSource, StdSink, StdSource, read_all, write_all};
+use sc_term::Mem;
 use sc_top::scott_over_sound;
-use std::alloc::{AllocError, Global};
+use std::alloc::Global;
 use std::io;
 use std::process::ExitCode;
 
@@ -50,7 +51,7 @@ fn next_case(table: &[u8]) -> Option<(Case<'_>, &[u8])> {
 }
 
 /// The text without its mark, and where that stood.
-fn unmarked(alloc: Global, text: &[u8]) -> Result<(Vec<u8>, Option<usize>), AllocError> {
+fn unmarked(alloc: Global, text: &[u8]) -> Mem<(Vec<u8>, Option<usize>)> {
     let mut bytes = Vec::new(alloc);
     match cut(text, &[MARK]) {
         Some((front, behind)) => {
@@ -66,7 +67,7 @@ fn unmarked(alloc: Global, text: &[u8]) -> Result<(Vec<u8>, Option<usize>), Allo
 }
 
 /// The line that is wanted.
-fn wanted_line(alloc: Global, wanted: &[u8], mark: Option<usize>) -> Result<Vec<u8>, AllocError> {
+fn wanted_line(alloc: Global, wanted: &[u8], mark: Option<usize>) -> Mem<Vec<u8>> {
     let mut line = Vec::new(alloc);
     if let Some(at) = mark {
         line.extend_from_slice(format!(in alloc; "input refused at byte {at}: ")?.as_bytes())?;
@@ -76,8 +77,17 @@ fn wanted_line(alloc: Global, wanted: &[u8], mark: Option<usize>) -> Result<Vec<
     Ok(line)
 }
 
+/// Tells a text that is answered otherwise. What the sink can't take is lost, and the count tells all the same.
+fn tell<K: Sink>(sink: &mut K, text: &[u8], wanted: &[u8], told: &[u8]) {
+    let _ = write_all(sink, text);
+    let _ = write_all(sink, b"\n  wanted ");
+    let _ = write_all(sink, wanted);
+    let _ = write_all(sink, b"  answered ");
+    let _ = write_all(sink, told);
+}
+
 /// Whether the answer is the one wanted; another is told.
-fn is_as_wanted<K: Sink>(alloc: Global, case: Case, sink: &mut K) -> Result<bool, AllocError> {
+fn is_as_wanted<K: Sink>(alloc: Global, case: Case, sink: &mut K) -> Mem<bool> {
     let words = vec![in alloc; String::from_str(alloc, "check")?]?;
     let (bytes, mark) = unmarked(alloc, case.text)?;
     let wanted = wanted_line(alloc, case.wanted, mark)?;
@@ -88,30 +98,32 @@ fn is_as_wanted<K: Sink>(alloc: Global, case: Case, sink: &mut K) -> Result<bool
     if told == wanted.as_slice() {
         return Ok(true);
     }
-    for part in [case.text, b"\n  wanted ", &wanted, b"  answered ", told] {
-        let _ = write_all(sink, part);
-    }
+    tell(sink, case.text, &wanted, told);
     Ok(false)
 }
 
 /// How many cases there are, and how many of them are answered otherwise.
-fn count<K: Sink>(alloc: Global, table: &[u8], sink: &mut K) -> Result<(u64, u64), AllocError> {
+fn count<K: Sink>(alloc: Global, table: &[u8], sink: &mut K) -> Mem<(u64, u64)> {
     let mut rest = table.strip_prefix(HEAD).unwrap_or(b"");
     let (mut cases, mut others): (u64, u64) = (0, 0);
-    while let Some((case, behind)) = next_case(rest) {
+    // A case takes a byte at least.
+    for _ in 0..table.len() {
+        let Some((case, behind)) = next_case(rest) else {
+            break;
+        };
         cases = cases.saturating_add(1);
         if !is_as_wanted(alloc, case, sink)? {
             others = others.saturating_add(1);
         }
         if behind.starts_with(END) {
-            return Ok((cases, others));
+            break;
         }
         rest = behind;
     }
     Ok((cases, others))
 }
 
-fn run<K: Sink>(alloc: Global, table: &[u8], sink: &mut K) -> Result<u8, AllocError> {
+fn run<K: Sink>(alloc: Global, table: &[u8], sink: &mut K) -> Mem<u8> {
     let (cases, others) = count(alloc, table, sink)?;
     let line = format!(in alloc; "{cases} cases, {others} answered otherwise\n")?;
     let _ = write_all(sink, line.as_bytes());

@@ -1,5 +1,4 @@
 pub mod LeastLaws
-pub mod SubsumesLaws
 pub mod MergeLaws
 pub mod CanonicalLaws
 pub mod EndLaws

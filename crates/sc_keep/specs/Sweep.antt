@@ -2,7 +2,7 @@
 use Rattle.std.specs.Prelude.{◌≢◌, ℕ, List, map, filter, not, nat_eq}
 use Rattle.std.specs.List.{list_any}
 use Rattle.sc_data.specs.declared.Numbered.{Numbered}
-use Rattle.sc_rules.specs.Subsumption.{Subsumes}
+use Rattle.sc_subsume.specs.Subsumption.{Subsumes}
 
 -- p is another clause than n, which subsumes it
 abbrev pub IsOtherSubsumed : Numbered → Numbered → Type 0

@@ -2,7 +2,7 @@
 
 ghost use Rattle.std.specs.Prelude.{◌↔◌, ◌++◌, ◌∷◌, [], List, IfOk, IsTrue};
 ghost use Rattle.sc_data.specs.declared.Numbered.{Numbered as ANumbered};
-ghost use Rattle.sc_rules.specs.Subsumption.{Subsumes};
+ghost use Rattle.sc_subsume.specs.Subsumption.{Subsumes};
 ghost use Rattle.sc_keep.specs.Least.{IsBelow, IsLeastNumber};
 
 use sc_data::{Clause, Numbered};

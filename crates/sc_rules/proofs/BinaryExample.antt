@@ -1,63 +1,54 @@
 -- Worked: the sites of binary resolution of -p(x0) | q(x0) with p(a), itself and -q(a).
-use Rattle.std.proofs.Common.{◌≡◌, ◌≢◌, ◌∙◌, refl, sym, ap, subst, ℕ, zero, suc, ◌+◌, ◌<◌, ◌⊎◌, inl, inr, List, [], ◌∷◌, map, arith, true, false, not, Bool, Some}
-use Rattle.std.specs.List.{Contains, All}
+use Rattle.std.proofs.Common.{◌≡◌, ◌∙◌, refl, sym, ap, subst, ℕ, zero, suc, ◌+◌, ◌<◌, ◌⊎◌, inl, inr, List, [], ◌∷◌, map, arith, true, false, not, Bool, Some, get_or}
+use Rattle.std.specs.List.{Contains}
 use Rattle.sc_data.specs.declared.Term.{Term, Var}
 use Rattle.sc_data.specs.declared.Term.TheVariants.{App}
 use Rattle.sc_data.specs.declared.Literal.{Literal}
 use Rattle.sc_data.specs.declared.Clause.{Clause}
 use Rattle.sc_data.specs.declared.Numbered.{Numbered}
 use Rattle.sc_data.specs.declared.Pair.{Pair}
-use Rattle.sc_data.specs.Term.{value_of}
-use Rattle.sc_data.specs.Clause.{width}
+use Rattle.sc_data.specs.Term.{value_of, term_under}
+use Rattle.sc_data.specs.Clause.{width, instance}
 use Rattle.sc_data.specs.Numbering.{numbered}
 use Rattle.sc_data.specs.Refuted.{Atom}
-use Rattle.sc_data.specs.Substitution.{Substitution, IsUnifier, Unify, literal_under}
-use Rattle.sc_data.specs.JointInstance.{apart}
-use Rattle.sc_data.proofs.TermSteps.{under-Var, under-App}
-use Rattle.sc_data.proofs.TermLaws.{width-Var, width-App}
+use Rattle.sc_data.specs.Substitution.{Substitution, IsUnifier, literal_under, IsInstanceOf, clause_under}
+use Rattle.sc_data.specs.JointInstance.{apart, renumbered, IsJointInstance}
+use Rattle.sc_data.proofs.TermSteps.{under-Var, under-App, variables-Var, variables-App}
+use Rattle.sc_data.proofs.TermLaws.{width-Var, instance-Var, weight-App, depth-App}
 use Rattle.sc_rules.specs.declared.site.BinarySite.{BinarySite}
-use Rattle.sc_rules.specs.Pairing.{Place, literal_at, ArePairs, HaveOppositeSigns, places_in}
-use Rattle.sc_rules.specs.Inference.{Inference, Resolving, parent_clauses}
+use Rattle.sc_rules.specs.Pairing.{Place, literal_at, ArePairs, places_in}
+use Rattle.sc_rules.specs.Inference.{Inference, Resolving, Ends, Concludes}
 use Rattle.sc_rules.specs.Resolution.{IsBinary, AreBinarySites, binary_numbers}
 use Rattle.sc_rules.specs.Order.{IsBefore}
-use Rattle.sc_rules.proofs.Enumerations.{in_three, numbered_one, numbered_two, all_of_one, all_of_two, pairs_of_two}
+use Rattle.sc_rules.proofs.Enumerations.{in_three, numbered_one, numbered_two, all_of_two, pairs_of_two}
 use Rattle.sc_rules.proofs.PairLaws.{unifier_of_one, opposite_one, first_unifying, first_opposed, one_predicate, same_sign}
-use Rattle.std.proofs.Common.{get_or}
 use Rattle.sc_data.specs.declared.Line.{Line}
 use Rattle.sc_data.specs.declared.Step.TheVariants.{Input, Instance, Resolve}
-use Rattle.sc_data.specs.Term.{term_under}
-use Rattle.sc_data.specs.Clause.{instance, variables}
-use Rattle.sc_data.specs.Substitution.{IsInstanceOf, clause_under}
-use Rattle.sc_data.specs.JointInstance.{renumbered, IsJointInstance}
-use Rattle.sc_data.proofs.TermSteps.{variables-Var, variables-App}
-use Rattle.sc_data.proofs.TermLaws.{instance-Var, instance-App, weight-App, depth-App}
-use Rattle.sc_steps.specs.declared.derivation.Derived.{Derived}
-use Rattle.sc_rules.specs.Derivation.{Adds, AddsPart, AddsParts}
-use Rattle.sc_rules.specs.Inference.{Ends, Concludes}
+use Rattle.sc_rules.specs.Derivation.{AddsPart, AddsParts}
 use Rattle.sc_rules.proofs.DerivationCases.{adds_input, adds_whole, adds_instance, terms_of_one}
 
-abbrev a : Term
+abbrev pub a : Term
 a = App (record { 0 = 3 }) []
 
-abbrev lit : Bool → ℕ → Term → Literal
+abbrev pub lit : Bool → ℕ → Term → Literal
 lit positive pred t = record { positive = positive; pred = record { 0 = pred }; args = t ∷ [] }
 
-abbrev of : ℕ → List Literal → Numbered
+abbrev pub of : ℕ → List Literal → Numbered
 of n ls = record { number = n; clause = record { literals = ls } }
 
-abbrev one : Numbered
+abbrev pub one : Numbered
 one = of 1 (lit true 1 a ∷ [])
 
-abbrev given : Numbered
+abbrev pub given : Numbered
 given = of 2 (lit false 1 (Var 0) ∷ lit true 2 (Var 0) ∷ [])
 
-abbrev three : Numbered
+abbrev pub three : Numbered
 three = of 3 (lit false 2 a ∷ [])
 
-abbrev usable : List Numbered
+abbrev pub usable : List Numbered
 usable = one ∷ given ∷ three ∷ []
 
-abbrev site : ℕ → ℕ → BinarySite
+abbrev pub site : ℕ → ℕ → BinarySite
 site partner l = record { partner = partner; given_lit = l; partner_lit = 1 }
 
 -- ---- both are sites
@@ -65,7 +56,7 @@ site partner l = record { partner = partner; given_lit = l; partner_lit = 1 }
 abbrev s : Substitution
 s = value_of (a ∷ [])
 
-abbrev pair_with : Bool → ℕ → Pair
+abbrev pub pair_with : Bool → ℕ → Pair
 pair_with positive pred = record { left = lit (not positive) pred (Var 0); right = lit positive pred a }
 
 unifies : (positive : Bool) (pred : ℕ) → IsUnifier (pair_with positive pred ∷ []) s
@@ -74,7 +65,7 @@ unifies positive pred = unifier_of_one (pair_with positive pred) s (simp (under-
 apart_so : (positive : Bool) (pred : ℕ) → apart (given.clause ∷ (of 1 (lit positive pred a ∷ [])).clause ∷ []) ≡ given.clause ∷ (of 1 (lit positive pred a ∷ [])).clause ∷ []
 apart_so positive pred = simp (under-App, under-Var)
 
-is_first : IsBinary given usable (site 1 1) (record { parents = given ∷ one ∷ []; pairs = pair_with true 1 ∷ []; ending = Resolving (1 ∷ []) (1 ∷ []) })
+pub is_first : IsBinary given usable (site 1 1) (record { parents = given ∷ one ∷ []; pairs = pair_with true 1 ∷ []; ending = Resolving (1 ∷ []) (1 ∷ []) })
 is_first = record {
   partner = one;
   listed = (0, omega arith, refl);
@@ -86,7 +77,7 @@ is_first = record {
   ending = refl;
 }
 
-is_second : IsBinary given usable (site 3 2) (record { parents = given ∷ three ∷ []; pairs = pair_with false 2 ∷ []; ending = Resolving (2 ∷ []) (1 ∷ []) })
+pub is_second : IsBinary given usable (site 3 2) (record { parents = given ∷ three ∷ []; pairs = pair_with false 2 ∷ []; ending = Resolving (2 ∷ []) (1 ∷ []) })
 is_second = record {
   partner = three;
   listed = (2, omega arith, refl);
@@ -181,7 +172,7 @@ with_itself x agreed =
     by (inr l) (inl r) = omega (arith, l.2, r.2, agreed.predicate)
     by (inr l) (inr r) = same_sign agreed.left agreed.right true agreed.signs l.1 r.1
 
-only_sites : (x : BinarySite) (i : Inference) → IsBinary given usable x i → (site 1 1 ≡ x) ⊎ (site 3 2 ≡ x)
+pub only_sites : (x : BinarySite) (i : Inference) → IsBinary given usable x i → (site 1 1 ≡ x) ⊎ (site 3 2 ≡ x)
 only_sites x i h = by (in_three one given three h.partner h.listed)
   where
     by : (one ≡ h.partner) ⊎ (given ≡ h.partner) ⊎ (three ≡ h.partner) → (site 1 1 ≡ x) ⊎ (site 3 2 ≡ x)
@@ -206,10 +197,10 @@ sites limit some = record {
 
 -- ---- the conclusion of the first site
 
-abbrev part : Clause
+abbrev pub part : Clause
 part = record { literals = lit false 1 a ∷ lit true 2 a ∷ [] }
 
-abbrev conclusion : Clause
+abbrev pub conclusion : Clause
 conclusion = record { literals = lit true 2 a ∷ [] }
 
 general : (t : Substitution) → IsUnifier (pair_with true 1 ∷ []) t → IsInstanceOf s t
@@ -234,7 +225,7 @@ lines_two = record { step = Input 2; clause = given.clause } ∷ record { step =
 abbrev lines_three : List Line
 lines_three = record { step = Input 2; clause = given.clause } ∷ record { step = Instance 1 (a ∷ []); clause = part } ∷ record { step = Input 1; clause = one.clause } ∷ []
 
-abbrev lines_four : List Line
+abbrev pub lines_four : List Line
 lines_four =
     record { step = Input 2; clause = given.clause }
     ∷ record { step = Instance 1 (a ∷ []); clause = part }

@@ -1,5 +1,5 @@
 -- Worked: p(x0) and -p(f(x0)) conflict, with the derivation of the empty clause.
-use Rattle.std.proofs.Common.{◌≡◌, ◌∙◌, sym, subst, refl, ap, ℕ, zero, suc, ◌<◌, inl, inr, List, [], ◌∷◌, arith, true, false, Bool, if◌then◌else◌, map, Some, None, get_or, ◌==◌, ◌-◌}
+use Rattle.std.proofs.Common.{◌≡◌, ◌∙◌, sym, subst, refl, ap, ℕ, zero, suc, inl, List, [], ◌∷◌, arith, true, false, Bool, map, get_or}
 use Rattle.sc_data.specs.Refuted.{Atom}
 use Rattle.sc_data.specs.declared.Term.{Term, Var}
 use Rattle.sc_data.specs.declared.Term.TheVariants.{App}
@@ -7,23 +7,19 @@ use Rattle.sc_data.specs.declared.Literal.{Literal}
 use Rattle.sc_data.specs.declared.Clause.{Clause}
 use Rattle.sc_data.specs.declared.Line.{Line}
 use Rattle.sc_data.specs.declared.Step.TheVariants.{Input, Instance, Resolve}
-use Rattle.sc_data.specs.Term.{term_under, value_of}
-use Rattle.sc_data.specs.Clause.{width, variables}
+use Rattle.sc_data.specs.Term.{term_under, value_of, weight_step, depth_step, term_weight, term_depth}
 use Rattle.sc_data.proofs.TermLaws.{width-Var, width-App, instance-Var, weight-App, depth-App, fold-Var}
-use Rattle.std.specs.List.{Contains}
 use Rattle.sc_rules.specs.Pairing.{ArePairs, HaveOppositeSigns, places_in}
-use Rattle.sc_data.specs.Term.{weight_step, depth_step, term_weight, term_depth}
 use Rattle.sc_data.specs.declared.Numbered.{Numbered}
 use Rattle.sc_data.specs.declared.Pair.{Pair}
 use Rattle.sc_data.specs.Substitution.{Substitution, clause_under, IsUnifier, IsInstanceOf}
 use Rattle.sc_data.specs.JointInstance.{apart, renumbered, IsJointInstance}
 use Rattle.sc_data.proofs.TermSteps.{under-Var, under-App, variables-Var, variables-App}
-use Rattle.std.specs.Prelude.{IsSomeAnd, slice_get}
 use Rattle.sc_steps.specs.declared.derivation.Derived.{Derived}
-use Rattle.sc_steps.specs.Derivation.{IsInputAt}
 use Rattle.sc_rules.specs.Derivation.{Adds, AddsPart, AddsParts, AreTermsTo}
 use Rattle.sc_rules.specs.Inference.{Inference, Resolving, Concludes, Ends}
 use Rattle.sc_rules.specs.Conflict.{Conflicts}
+use Rattle.sc_rules.proofs.DerivationCases.{adds_input, adds_whole, adds_instance, terms_of_one}
 
 weight-Var : (n : ℕ) → term_weight (Var n) ≡ 1
 weight-Var n = fold-Var ℕ weight_step n
@@ -114,50 +110,28 @@ inference = record { parents = second ∷ first_one ∷ []; pairs = pairs; endin
 abbrev made : Derived
 made = record { clause = record { literals = [] }; lines = conflict_lines }
 
--- no such line is there yet
-none_at : (lines : List Line) (n : ℕ) → ((k : ℕ) → ¬ IsSomeAnd (slice_get lines k) (λ line. line.step ≡ Input n)) → (j : ℕ) → ¬ IsInputAt lines n j
-none_at lines n h j i = by (j == 0) refl
-  where
-    by : (b : Bool) → (j == 0) ≡ b → ⊥
-    by true e = subst (λ b. IsSomeAnd (if b then None else slice_get lines (j - 1)) (λ line. line.step ≡ Input n)) e i
-    by false e = h (j - 1) (subst (λ b. IsSomeAnd (if b then None else slice_get lines (j - 1)) (λ line. line.step ≡ Input n)) e i)
-
 abbrev step_one : List Line
 step_one = record { step = Input 2; clause = denied } ∷ []
 
 abbrev step_two : List Line
 step_two = record { step = Input 2; clause = denied } ∷ record { step = Input 1; clause = general_fact } ∷ []
 
-only_second : (k : ℕ) → ¬ IsSomeAnd (slice_get step_one k) (λ line. line.step ≡ Input 1)
-only_second zero e = cc
-only_second (suc k) e = e
-
 terms_to : AreTermsTo general_fact (one (lit true (f_of (Var 0)))) (f_of (Var 0) ∷ [])
-terms_to = record { many = simp width-Var; gives = simp instance-Var; rest = occurs }
-  where
-    wide : width general_fact ≡ 1
-    wide = simp width-Var
-
-    has : variables general_fact ≡ 0 ∷ []
-    has = simp variables-Var
-
-    occurs : (n : ℕ) → n < width general_fact → ¬ Contains (variables general_fact) n → slice_get (f_of (Var 0) ∷ []) n ≡ Some (Var 0)
-    occurs zero h absent = absurd (absent (subst (λ ns. Contains ns 0) (sym has) (0, omega arith, refl)))
-    occurs (suc n) h absent = absurd (omega (arith, h, wide))
+terms_to = terms_of_one general_fact (one (lit true (f_of (Var 0)))) (f_of (Var 0)) [] (simp width-Var) (simp variables-Var) (simp instance-Var)
 
 other_part : ¬ (one (lit true (f_of (Var 0))) ≡ general_fact)
 other_part e =
     let same : f_of (Var 0) ≡ Var 0 = ap (λ (c : Clause). get_or (get_or c.literals 0 (lit true (Var 0))).args 0 (Var 0)) e in
     cc
 
-adds_instance : Adds step_two (Instance 2 (f_of (Var 0) ∷ [])) opening_lines
-adds_instance = (one (lit true (f_of (Var 0))), (simp width-Var, simp instance-Var), refl)
+adds_instance_line : Adds step_two (Instance 2 (f_of (Var 0) ∷ [])) opening_lines
+adds_instance_line = (one (lit true (f_of (Var 0))), (simp width-Var, simp instance-Var), refl)
 
 opens_second : AddsPart [] second denied step_one 1
-opens_second = (step_one, 1, inr (none_at [] 2 (λ k e. e), refl, refl), inl (refl, (refl, refl)))
+opens_second = adds_whole [] second step_one 1 (adds_input [] second refl)
 
 opens_first : AddsPart step_one first_one (one (lit true (f_of (Var 0)))) opening_lines 3
-opens_first = (step_two, 2, inr (none_at step_one 1 only_second, refl, refl), inr (other_part, (f_of (Var 0) ∷ [], terms_to, adds_instance, refl)))
+opens_first = adds_instance step_one first_one (one (lit true (f_of (Var 0)))) step_two 2 (f_of (Var 0) ∷ []) opening_lines (adds_input step_one first_one refl) other_part terms_to adds_instance_line
 
 opens : AddsParts [] (second ∷ first_one ∷ []) parts opening_lines (1 ∷ 3 ∷ [])
 opens = (step_one, opens_second, (opening_lines, opens_first, (refl, refl)))

@@ -1,21 +1,20 @@
 -- What a problem keeps of its demodulators is what the search asks of one.
-use Rattle.std.proofs.Common.{◌≡◌, ◌∙◌, sym, ap, subst, refl, ℕ, zero, suc, ◌<◌, ◌≤◌, ◌==◌, List, [], ◌∷◌, length, Bool, true, false, not, ◌&&◌, ◌||◌, nat_eq, Some, None, Option, slice_get, arith, ◌⊎◌, inl, inr}
+use Rattle.std.proofs.Common.{◌≡◌, ◌∙◌, sym, ap, subst, refl, ℕ, zero, suc, ◌==◌, List, [], ◌∷◌, Bool, true, false, not, ◌&&◌, ◌||◌, nat_eq, Some, None, Option, slice_get, arith, ◌⊎◌, inl, inr}
 use Rattle.std.proofs.lemmas.Bool.{eqb-true, eqb-false}
-use Rattle.std.specs.Prelude.{IsTrue, zip}
+use Rattle.std.specs.Prelude.{zip}
 use Rattle.std.specs.List.{Contains, AllByRecursion, list_any, list_all}
 use Rattle.sc_data.specs.declared.SymId.{SymId}
 use Rattle.sc_data.specs.declared.Term.{Term, Var}
-use Rattle.sc_data.specs.declared.Term.TheVariants.{App}
 use Rattle.sc_data.specs.declared.Literal.{Literal}
 use Rattle.sc_data.specs.declared.Clause.{Clause}
 use Rattle.sc_data.specs.Term.{term_variables}
-use Rattle.sc_data.specs.Refuted.{equation, equals}
+use Rattle.sc_data.specs.Refuted.{equals}
 use Rattle.sc_data.proofs.TermLaws.{term_ind, fold-Var, fold-App}
 use Rattle.sc_reading.specs.declared.settings.Home.{Home}
 use Rattle.sc_reading.specs.declared.settings.Home.TheVariants.{Demodulators}
 use Rattle.sc_reading.specs.WellFormed.{variable_step, is_variable_term, are_rewriting_sides, is_rewriting, IsRewriting, FitsHome}
 use Rattle.sc_rules.specs.Paramodulation.{IsCompound}
-use Rattle.sc_rules.specs.Rewriting.{IsEquation, IsDemodulator}
+use Rattle.sc_rules.specs.Rewriting.{IsDemodulator}
 use Rattle.sc_rules.proofs.OrderLaws.{later, first_or_later}
 
 -- ---- tests

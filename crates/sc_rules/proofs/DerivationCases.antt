@@ -1,5 +1,5 @@
 -- The lines of a derivation, put together one by one.
-use Rattle.std.proofs.Common.{◌≡◌, ◌∙◌, sym, ap, subst, refl, ℕ, zero, suc, ◌+◌, ◌-◌, ◌<◌, ◌==◌, ◌⊎◌, inl, inr, List, [], ◌∷◌, ◌++◌, length, Bool, true, false, ◌||◌, if◌then◌else◌, nat_eq, Some, None, Option, slice_get, arith}
+use Rattle.std.proofs.Common.{◌≡◌, ◌∙◌, sym, ap, subst, refl, ℕ, zero, suc, ◌+◌, ◌-◌, ◌<◌, ◌==◌, inl, inr, List, [], ◌∷◌, ◌++◌, length, Bool, true, false, ◌||◌, if◌then◌else◌, Some, None, slice_get, arith}
 use Rattle.std.specs.Prelude.{IsSomeAnd}
 use Rattle.std.specs.List.{Contains}
 use Rattle.std.proofs.lemmas.Bool.{eq-eqb}
@@ -8,8 +8,7 @@ use Rattle.sc_data.specs.declared.Clause.{Clause}
 use Rattle.sc_data.specs.declared.Line.{Line}
 use Rattle.sc_data.specs.declared.Numbered.{Numbered}
 use Rattle.sc_data.specs.declared.Step.{Step}
-use Rattle.sc_data.specs.declared.Step.TheVariants.{Input, Instance, Resolve, Merge, Para, Flip}
-use Rattle.sc_data.specs.Numbering.{numbered}
+use Rattle.sc_data.specs.declared.Step.TheVariants.{Input, Instance}
 use Rattle.sc_data.specs.Clause.{instance, width, variables}
 use Rattle.sc_steps.specs.Derivation.{IsInputAt}
 use Rattle.sc_steps.specs.Splice.{named_by}

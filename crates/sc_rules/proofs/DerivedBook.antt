@@ -1,29 +1,25 @@
 -- Every clause that the search derives follows by its derivation from the clauses of smaller number.
-use Rattle.std.proofs.Common.{◌≡◌, ◌≢◌, ◌∙◌, sym, ap, subst, refl, ℕ, ◌+◌, ◌<◌, ◌⊎◌, inl, inr, List, [], ◌∷◌, ◌++◌, map, Some, true, arith}
+use Rattle.std.proofs.Common.{◌≡◌, sym, ap, subst, ℕ, ◌⊎◌, inl, inr, List, [], ◌∷◌, Some}
 use Rattle.std.specs.List.{Contains}
 use Rattle.sc_data.specs.declared.Clause.{Clause}
 use Rattle.sc_data.specs.declared.Line.{Line}
 use Rattle.sc_data.specs.declared.Numbered.{Numbered}
-use Rattle.sc_data.specs.declared.Step.TheVariants.{Input}
 use Rattle.sc_data.specs.Numbering.{numbered}
 use Rattle.sc_data.specs.Proof.{AreSteps}
 use Rattle.sc_steps.specs.declared.derivation.Derived.{Derived}
-use Rattle.sc_steps.specs.Derivation.{IsDerivedFrom, last_clause}
-use Rattle.sc_steps.proofs.LineLaws.{steps_push}
-use Rattle.sc_steps.proofs.DerivedLaws.{none_derived, one_more_derived}
+use Rattle.sc_steps.specs.Derivation.{IsDerivedFrom}
+use Rattle.sc_steps.proofs.LineLaws.{number_in_whole}
+use Rattle.sc_steps.proofs.DerivedLaws.{one_more_derived}
 use Rattle.sc_reading.specs.Problem.{Stated}
 use Rattle.sc_rules.specs.declared.fate.Processed.{Processed}
-use Rattle.sc_rules.specs.Order.{Where, IsLeast}
-use Rattle.sc_rules.specs.Inference.{Inference, Concludes}
-use Rattle.sc_rules.specs.Book.{Book, IsSound, IsDerived, numbered_clauses, live, next_number, with_derived, with_deleted}
+use Rattle.sc_rules.specs.Book.{Book, IsSound, IsDerived, numbered_clauses, live, next_number, with_derived}
 use Rattle.sc_rules.specs.Conflict.{Conflicts}
-use Rattle.sc_rules.specs.Processing.{with_kept, with_demodulator, IsRival, Sweeps, Keeps, MeetsFate, Processes}
-use Rattle.sc_rules.proofs.OrderLaws.{first_or_later}
+use Rattle.sc_rules.specs.Processing.{with_kept, Sweeps, Keeps, MeetsFate, Processes}
 use Rattle.sc_rules.proofs.FilterLaws.{in_first, in_second}
 use Rattle.sc_rules.proofs.CheckLaws.{Stands, AllStand, conclusion_checks, simplified_checks}
 use Rattle.sc_rules.proofs.Enumerations.{in_two}
 use Rattle.sc_rules.proofs.ProcessLaws.{Becomes}
-use Rattle.sc_rules.proofs.SoundLaws.{StandsIn, at, grown, numbered_append, kept_sound, kept_stands}
+use Rattle.sc_rules.proofs.SoundLaws.{StandsIn, at, grown, kept_sound, kept_stands}
 use Rattle.sc_rules.proofs.SoundProcessing.{where_either}
 
 -- the new book's clauses are derived, and each clause that had a number has it still
@@ -37,7 +33,7 @@ module _ (problem : Stated) where
   pub one_more : (old : Book) (c : Clause) (lines : List Line) → IsDerived problem old → IsDerivedFrom (numbered_clauses problem old) (record { clause = c; lines = lines }) → GoesOn problem old (with_derived old c lines)
   one_more old c lines derived from = record {
     derived = one_more_derived problem.inputs old.derived (record { clause = c; lines = lines }) derived from;
-    grows = λ p h. subst (λ (cs : List Clause). numbered cs p.number ≡ Some p.clause) (sym (grown problem old c lines)) (numbered_append (numbered_clauses problem old) (c ∷ []) p.number p.clause h);
+    grows = λ p h. subst (λ (cs : List Clause). numbered cs p.number ≡ Some p.clause) (sym (grown problem old c lines)) (number_in_whole (numbered_clauses problem old) (c ∷ []) p.number p.clause h);
   }
 
   -- the clauses of a sound book stand under their numbers

@@ -1,37 +1,32 @@
 -- Every clause that a run derives follows by its derivation from the clauses of smaller number.
-use Rattle.std.proofs.Common.{◌≡◌, ◌≢◌, ◌∙◌, sym, ap, subst, refl, ℕ, zero, suc, ◌+◌, ◌<◌, ◌⊎◌, inl, inr, List, [], ◌∷◌, ◌++◌, map, Some, Option, arith, length}
+use Rattle.std.proofs.Common.{◌≡◌, sym, subst, ℕ, ◌+◌, ◌⊎◌, inl, inr, List, [], ◌∷◌, map, Option, arith, length}
 use Rattle.std.specs.List.{Contains}
-use Rattle.sc_data.specs.declared.Clause.{Clause}
-use Rattle.sc_data.specs.declared.Line.{Line}
 use Rattle.sc_data.specs.declared.Numbered.{Numbered}
 use Rattle.sc_data.specs.declared.Step.TheVariants.{Input}
-use Rattle.sc_data.specs.Numbering.{numbered}
 use Rattle.sc_data.specs.Proof.{AreSteps}
 use Rattle.sc_steps.specs.declared.derivation.Derived.{Derived}
-use Rattle.sc_steps.proofs.LineLaws.{steps_push}
+use Rattle.sc_steps.proofs.LineLaws.{steps_push, number_in_whole}
 use Rattle.sc_steps.proofs.DerivedLaws.{none_derived}
 use Rattle.sc_reading.specs.Problem.{Stated}
 use Rattle.sc_reading.specs.WellFormed.{IsProblem}
-use Rattle.sc_rules.specs.declared.fate.Processed.{Processed}
-use Rattle.sc_rules.specs.Order.{Where}
-use Rattle.sc_rules.specs.Inference.{Inference, Concludes}
+use Rattle.sc_rules.specs.Inference.{Inference}
 use Rattle.sc_rules.specs.Hyperresolution.{AreNamed}
 use Rattle.sc_rules.specs.Sites.{Site, Binary, Factor, Hyper, Ur, ParaFrom, ParaInto, Infers}
-use Rattle.sc_rules.specs.Book.{Book, IsSound, IsDerived, numbered_clauses, live}
+use Rattle.sc_rules.specs.Book.{Book, IsSound, IsDerived, numbered_clauses}
 use Rattle.sc_rules.specs.Start.{input_clauses, Starts}
 use Rattle.sc_rules.specs.Selection.{Seen}
 use Rattle.sc_rules.specs.WorkList.{Item, At, Again, Gives, Finish, Works, done, too_many, nothing, found, goes_on}
 use Rattle.sc_rules.specs.Turn.{Run, Infer, Turns, with_given}
-use Rattle.sc_rules.specs.Run.{Goes, GoesOver, started, IsRun}
-use Rattle.sc_rules.proofs.OrderLaws.{first_or_later, at_first, later}
+use Rattle.sc_rules.specs.Run.{GoesOver, started, IsRun}
+use Rattle.sc_rules.proofs.OrderLaws.{first_or_later, at_first}
 use Rattle.sc_rules.proofs.FilterLaws.{in_first, in_second}
-use Rattle.sc_rules.proofs.CheckLaws.{Stands, AllStand, conclusion_checks}
+use Rattle.sc_rules.proofs.CheckLaws.{AllStand, conclusion_checks}
 use Rattle.sc_rules.proofs.Enumerations.{in_one, in_two}
-use Rattle.sc_rules.proofs.SoundLaws.{StandsIn, numbered_append}
+use Rattle.sc_rules.proofs.SoundLaws.{StandsIn}
 use Rattle.sc_rules.proofs.SoundProcessing.{where_either, processes_sound}
 use Rattle.sc_rules.proofs.DerivedBook.{GoesOn, all_stand, conflict_derived, one_more, processes_goes_on}
 use Rattle.sc_rules.proofs.TurnLaws.{given_sound, selected_there, turns_sound}
-use Rattle.sc_rules.proofs.RunLaws.{input_stands, opened_sound, starts_sound}
+use Rattle.sc_rules.proofs.RunLaws.{input_stands, starts_sound}
 
 -- ---- the parents of an inference are usable
 
@@ -128,7 +123,7 @@ module _ (problem : Stated) where
       opened = subst (λ (ds : List Derived). IsDerived problem (record h.opened { derived = ds })) (sym h.opens.no_derived) (none_derived problem.inputs)
 
       stands : (p : Numbered) → Contains (input_clauses problem) p → StandsIn problem h.opened p
-      stands p k = numbered_append problem.inputs (map (λ (d : Derived). d.clause) (h.opened).derived) p.number p.clause (input_stands problem p k)
+      stands p k = number_in_whole problem.inputs (map (λ (d : Derived). d.clause) (h.opened).derived) p.number p.clause (input_stands problem p k)
 
   -- ---- the run
 

@@ -1,37 +1,31 @@
 -- Worked: p(a) | p(x0) has the one factoring site (1, 2), whose conclusion is p(a).
-use Rattle.std.proofs.Common.{◌≡◌, ◌∙◌, refl, sym, subst, ℕ, zero, suc, ◌<◌, ◌⊎◌, inl, inr, List, [], ◌∷◌, map, arith, true, Some, None, Option}
+use Rattle.std.proofs.Common.{◌≡◌, ◌∙◌, refl, sym, subst, ℕ, zero, suc, ◌<◌, ◌⊎◌, inl, inr, List, [], ◌∷◌, map, arith, true, Some, get_or, ap}
 use Rattle.std.specs.List.{All}
 use Rattle.sc_data.specs.declared.Term.{Term, Var}
 use Rattle.sc_data.specs.declared.Term.TheVariants.{App}
 use Rattle.sc_data.specs.declared.Literal.{Literal}
 use Rattle.sc_data.specs.declared.Clause.{Clause}
 use Rattle.sc_data.specs.Numbering.{numbered}
-use Rattle.sc_data.specs.Term.{value_of}
+use Rattle.sc_data.specs.Term.{value_of, term_under}
 use Rattle.sc_data.specs.declared.Numbered.{Numbered}
 use Rattle.sc_data.specs.declared.Pair.{Pair}
 use Rattle.sc_rules.specs.declared.site.FactorSite.{FactorSite}
-use Rattle.sc_data.specs.Substitution.{Substitution, IsUnifier}
-use Rattle.sc_data.specs.JointInstance.{apart}
-use Rattle.sc_rules.specs.Pairing.{Place, literal_at, ArePairs, HaveSameSigns, places_in}
-use Rattle.sc_rules.specs.Inference.{Inference, Merging}
+use Rattle.sc_data.specs.Substitution.{Substitution, IsUnifier, IsInstanceOf, clause_under}
+use Rattle.sc_data.specs.JointInstance.{apart, renumbered, IsJointInstance}
+use Rattle.sc_rules.specs.Pairing.{ArePairs, HaveSameSigns, places_in}
+use Rattle.sc_rules.specs.Inference.{Inference, Merging, Ends, Concludes}
 use Rattle.sc_rules.specs.Resolution.{IsFactor, AreFactorSites}
-use Rattle.sc_data.proofs.TermSteps.{under-Var, under-App}
-use Rattle.sc_rules.proofs.NumberLaws.{numbered-suc}
-use Rattle.std.proofs.Common.{get_or}
+use Rattle.sc_data.proofs.TermSteps.{under-Var, under-App, variables-Var, variables-App}
+use Rattle.sc_rules.proofs.Enumerations.{numbered_two}
+use Rattle.sc_rules.proofs.PairLaws.{first_unifying}
+pub use Rattle.sc_rules.proofs.PairLaws.{one_pair}
 use Rattle.sc_data.specs.declared.Line.{Line}
-use Rattle.sc_data.specs.Clause.{instance, variables, width}
+use Rattle.sc_data.specs.Clause.{instance, width}
 use Rattle.sc_data.specs.Refuted.{Atom}
-use Rattle.sc_data.specs.Term.{term_under}
-use Rattle.sc_data.specs.Substitution.{IsInstanceOf, clause_under}
-use Rattle.sc_data.specs.JointInstance.{renumbered, IsJointInstance}
-use Rattle.sc_data.proofs.TermSteps.{variables-Var, variables-App}
 use Rattle.sc_data.proofs.TermLaws.{width-Var, width-App, instance-Var, instance-App, weight-App, depth-App}
-use Rattle.sc_steps.specs.declared.derivation.Derived.{Derived}
-use Rattle.sc_rules.specs.Derivation.{Adds, AddsPart, AddsParts}
-use Rattle.sc_rules.specs.Inference.{Ends, Concludes}
-use Rattle.sc_rules.proofs.DerivationCases.{adds_input, adds_whole, adds_instance, terms_of_one, terms_of_two}
+use Rattle.sc_rules.specs.Derivation.{AddsParts}
+use Rattle.sc_rules.proofs.DerivationCases.{adds_input, adds_instance, terms_of_one}
 use Rattle.sc_data.specs.declared.Step.TheVariants.{Input, Instance, Merge}
-use Rattle.std.proofs.Common.{ap}
 
 abbrev a : Term
 a = App (record { 0 = 2 }) []
@@ -75,29 +69,25 @@ is_factor = record { order = omega arith; parents = refl; pairs = subst (λ cs. 
 
 -- ---- it is the only one
 
-pub one_pair : (cs : List Clause) (m n : Place) (ps : List Pair) → ArePairs cs (m ∷ []) (n ∷ []) ps
-    → (pair : Pair) × (ps ≡ pair ∷ []) × (literal_at cs m ≡ Some pair.left) × (literal_at cs n ≡ Some pair.right)
-one_pair cs m n [] h = absurd h
-one_pair cs m n (pair ∷ rest) h = (pair, (λ i. pair ∷ h.2 i), h.0, h.1)
-
-one_or_two : (n : ℕ) (l m k : Literal) → numbered (l ∷ m ∷ []) n ≡ Some k → (n ≡ 1) ⊎ (n ≡ 2)
-one_or_two zero l m k h = cc
-one_or_two (suc zero) l m k h = inl refl
-one_or_two (suc (suc zero)) l m k h = inr refl
-one_or_two (suc (suc (suc n))) l m k h = let none : ◌≡◌ {A = Option Literal} None (Some k) = sym (numbered-suc (l ∷ m ∷ []) (suc (suc n))) ∙ h in cc
-
 both_numbers : (m n : ℕ) → m < n → (m ≡ 1) ⊎ (m ≡ 2) → (n ≡ 1) ⊎ (n ≡ 2) → (1 ≡ m) × (2 ≡ n)
 both_numbers m n less (inl e) (inr f) = (sym e, sym f)
 both_numbers m n less (inl e) (inl f) = absurd (omega (arith, e, f))
 both_numbers m n less (inr e) (inl f) = absurd (omega (arith, e, f))
 both_numbers m n less (inr e) (inr f) = absurd (omega (arith, e, f))
 
+in_clause : (n : ℕ) (l : Literal) → numbered (p a ∷ p (Var 0) ∷ []) n ≡ Some l → (n ≡ 1) ⊎ (n ≡ 2)
+in_clause n l h = by (numbered_two (p a) (p (Var 0)) n l h)
+  where
+    by : ((n ≡ 1) × (p a ≡ l)) ⊎ ((n ≡ 2) × (p (Var 0) ≡ l)) → (n ≡ 1) ⊎ (n ≡ 2)
+    by (inl e) = inl e.0
+    by (inr e) = inr e.0
+
 only_site : (x : FactorSite) (i : Inference) → IsFactor given x i → site ≡ x
 only_site x i h =
     let there = subst (λ cs. ArePairs cs (places_in 1 (x.first ∷ [])) (places_in 1 (x.second ∷ [])) i.pairs) apart_so
     (subst (λ ps. ArePairs (apart (map (λ (q : Numbered). q.clause) ps)) (places_in 1 (x.first ∷ [])) (places_in 1 (x.second ∷ [])) i.pairs) h.parents h.pairs) in
-    let pair = one_pair (clause ∷ []) (record { parent = 1; lit = x.first }) (record { parent = 1; lit = x.second }) i.pairs there in
-    let numbers = both_numbers x.first x.second h.order (one_or_two x.first (p a) (p (Var 0)) pair.0.left pair.2) (one_or_two x.second (p a) (p (Var 0)) pair.0.right pair.3) in
+    let pair = first_unifying (clause ∷ []) (record { parent = 1; lit = x.first }) (record { parent = 1; lit = x.second }) [] [] i.pairs there h.unify in
+    let numbers = both_numbers x.first x.second h.order (in_clause x.first pair.left pair.left_there) (in_clause x.second pair.right pair.right_there) in
     λ j. record { first = numbers.0 j; second = numbers.1 j }
 
 -- the sites of factoring, where more than none may be listed

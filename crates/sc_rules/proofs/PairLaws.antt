@@ -1,6 +1,5 @@
 -- Pairs of literals that unify, taken apart one by one.
-use Rattle.std.proofs.Common.{◌≡◌, ◌∙◌, sym, ap, ℕ, zero, suc, List, [], ◌∷◌, Bool, true, false, not, Some, arith}
-use Rattle.std.specs.List.{All}
+use Rattle.std.proofs.Common.{◌≡◌, ◌∙◌, sym, ap, suc, List, [], ◌∷◌, ◌++◌, Bool, true, false, not, Some, arith}
 use Rattle.sc_data.specs.declared.Literal.{Literal}
 use Rattle.sc_data.specs.declared.Clause.{Clause}
 use Rattle.sc_data.specs.declared.Pair.{Pair}
@@ -9,6 +8,8 @@ use Rattle.sc_data.specs.Substitution.{Substitution, IsUnifier, Unify, literal_u
 use Rattle.sc_rules.specs.Pairing.{Place, literal_at, ArePairs, HaveOppositeSigns}
 use Rattle.sc_rules.proofs.Enumerations.{all_of_one, all_of_two}
 use Rattle.sc_rules.proofs.StepLaws.{same_some}
+use Rattle.sc_rules.proofs.FilterLaws.{in_first}
+use Rattle.sc_rules.proofs.SoundLaws.{at, each}
 
 -- ---- put together
 
@@ -26,6 +27,12 @@ pub opposite_two : (pair next : Pair) → pair.left.positive ≡ not pair.right.
 opposite_two pair next h i = all_of_two (λ (q : Pair). q.left.positive ≡ not q.right.positive) pair next h i
 
 -- ---- taken apart
+
+-- the one pair of two places
+pub one_pair : (cs : List Clause) (m n : Place) (ps : List Pair) → ArePairs cs (m ∷ []) (n ∷ []) ps
+    → (pair : Pair) × (ps ≡ pair ∷ []) × (literal_at cs m ≡ Some pair.left) × (literal_at cs n ≡ Some pair.right)
+one_pair cs m n [] h = absurd h
+one_pair cs m n (pair ∷ rest) h = (pair, (λ i. pair ∷ h.2 i), h.0, h.1)
 
 -- the literals at two places can be made equal, but for their signs
 pub record AreUnifying (cs : List Clause) (m n : Place) : Type 0 where
@@ -63,3 +70,10 @@ rest_opposed cs m n ms ns p ps signs = λ k d within. signs (suc k) d (omega ari
 pub same_sign : (l r : Literal) (b : Bool) → l.positive ≡ not r.positive → l.positive ≡ b → r.positive ≡ b → ⊥
 same_sign l r true h i j = let bad : true ≡ false = sym i ∙ h ∙ ap not j in cc
 same_sign l r false h i j = let bad : false ≡ true = sym i ∙ h ∙ ap not j in cc
+
+-- what unifies all pairs unifies the first of them: a front that doesn't unify has no extension that does
+pub unify_front : (ps qs : List Pair) → Unify (ps ++ qs) → Unify ps
+unify_front ps qs h = (h.0, each Q ps (λ p there. at Q (ps ++ qs) p h.1 (in_first p ps qs there)))
+  where
+    Q : Pair → Type 0
+    Q pair = atom_of (literal_under h.0 pair.left) ≡ atom_of (literal_under h.0 pair.right)

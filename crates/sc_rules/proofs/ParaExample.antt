@@ -1,6 +1,6 @@
 -- Worked: the sites of paramodulation of f(x0,e) = x0 into itself and into p(f(a,e)), and the conclusion p(a).
-use Rattle.std.proofs.Common.{◌≡◌, ◌≢◌, ◌∙◌, refl, sym, ap, subst, ℕ, zero, suc, ◌+◌, ◌<◌, ◌⊎◌, inl, inr, List, [], ◌∷◌, map, arith, true, false, Bool, Some, None, Option, get_or}
-use Rattle.std.specs.List.{Contains, All}
+use Rattle.std.proofs.Common.{◌≡◌, ◌≢◌, ◌∙◌, refl, sym, ap, subst, ℕ, zero, suc, ◌+◌, ◌<◌, ◌⊎◌, inl, inr, List, [], ◌∷◌, map, arith, true, Some, get_or}
+use Rattle.std.specs.List.{Contains}
 use Rattle.sc_data.specs.declared.SymId.{SymId}
 use Rattle.sc_data.specs.declared.Side.{Side}
 use Rattle.sc_data.specs.declared.Side.TheVariants.{Left, Right}
@@ -11,35 +11,25 @@ use Rattle.sc_data.specs.declared.Clause.{Clause}
 use Rattle.sc_data.specs.declared.Numbered.{Numbered}
 use Rattle.sc_data.specs.declared.Pair.{Pair}
 use Rattle.sc_data.specs.Term.{value_of, term_under}
-use Rattle.sc_data.specs.Clause.{width}
+use Rattle.sc_data.specs.Clause.{width, instance, variables}
 use Rattle.sc_data.specs.Numbering.{numbered}
 use Rattle.sc_data.specs.Path.{IsSubtermAt}
 use Rattle.sc_data.specs.Proof.{chosen}
-use Rattle.sc_data.specs.Refuted.{equation, Atom, atom_of}
-use Rattle.sc_data.specs.Substitution.{Substitution, IsUnifier, Unify, literal_under}
-use Rattle.sc_data.specs.JointInstance.{apart}
-use Rattle.sc_data.proofs.TermSteps.{under-Var, under-App}
-use Rattle.sc_data.proofs.TermLaws.{width-Var, width-App, App-injective}
+use Rattle.sc_data.specs.Refuted.{equation, Atom}
+use Rattle.sc_data.specs.Substitution.{Substitution, IsUnifier, Unify, literal_under, IsInstanceOf, clause_under}
+use Rattle.sc_data.specs.JointInstance.{apart, renumbered, IsJointInstance}
+use Rattle.sc_data.proofs.TermSteps.{under-Var, under-App, variables-Var, variables-App}
+use Rattle.sc_data.proofs.TermLaws.{width-Var, width-App, App-injective, instance-Var, instance-App, weight-App, depth-App}
 use Rattle.sc_rules.specs.declared.site.ParaSite.{ParaSite}
-use Rattle.sc_rules.specs.Pairing.{Place, literal_at}
-use Rattle.sc_rules.specs.Inference.{Inference, Replacing, parent_clauses}
+use Rattle.sc_rules.specs.Pairing.{literal_at}
+use Rattle.sc_rules.specs.Inference.{Inference, Replacing, parent_clauses, Concludes}
 use Rattle.sc_rules.specs.Paramodulation.{IsCompound, IsPara, IsParaFrom, IsParaInto, AreParaFromSites, AreParaIntoSites, atom_with, para_from_numbers, para_into_numbers}
 use Rattle.sc_rules.specs.Order.{IsBefore}
 use Rattle.sc_rules.proofs.Enumerations.{in_two, numbered_one, numbered_two, numbered_none, numbered_cons, all_of_one, all_of_two, pairs_of_one, pairs_of_two}
 use Rattle.sc_rules.proofs.PairLaws.{unifier_of_one}
-use Rattle.std.proofs.Common.{get_or}
 use Rattle.sc_data.specs.declared.Line.{Line}
-use Rattle.sc_data.specs.Clause.{instance, variables, width}
-use Rattle.sc_data.specs.Refuted.{Atom}
-use Rattle.sc_data.specs.Term.{term_under}
-use Rattle.sc_data.specs.Substitution.{IsInstanceOf, clause_under}
-use Rattle.sc_data.specs.JointInstance.{renumbered, IsJointInstance}
-use Rattle.sc_data.proofs.TermSteps.{variables-Var, variables-App}
-use Rattle.sc_data.proofs.TermLaws.{width-Var, width-App, instance-Var, instance-App, weight-App, depth-App}
-use Rattle.sc_steps.specs.declared.derivation.Derived.{Derived}
-use Rattle.sc_rules.specs.Derivation.{Adds, AddsPart, AddsParts}
-use Rattle.sc_rules.specs.Inference.{Ends, Concludes}
-use Rattle.sc_rules.proofs.DerivationCases.{adds_input, adds_whole, adds_instance, terms_of_one, terms_of_two}
+use Rattle.sc_rules.specs.Derivation.{AddsPart, AddsParts}
+use Rattle.sc_rules.proofs.DerivationCases.{adds_input, adds_whole, adds_instance, terms_of_one}
 use Rattle.sc_data.specs.declared.Step.TheVariants.{Input, Instance, Para}
 
 abbrev symbol : ℕ → SymId

@@ -15,7 +15,7 @@ use Rattle.sc_reading.specs.declared.settings.Home.TheVariants.{Usable}
 use Rattle.sc_rules.specs.declared.fate.Fate.TheVariants.{Kept}
 use Rattle.sc_rules.specs.declared.fate.Processed.{Processed}
 use Rattle.sc_rules.specs.Order.{IsBefore, AreInOrder, ends, goes}
-use Rattle.sc_rules.specs.Subsumption.{Subsumes, IsTautology}
+use Rattle.sc_subsume.specs.Subsumption.{Subsumes, IsTautology}
 use Rattle.sc_rules.specs.Rewriting.{number_of, RewritesOnce}
 use Rattle.sc_rules.specs.Simplification.{Simplifies, MergesOnce, IsRepeated}
 use Rattle.sc_rules.specs.Book.{Book, live}

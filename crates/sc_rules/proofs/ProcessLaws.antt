@@ -16,7 +16,7 @@ use Rattle.sc_data.specs.JointInstance.{apart}
 use Rattle.sc_rules.specs.Inference.{Inference, Concludes, parent_clauses}
 use Rattle.sc_rules.specs.Pairing.{Place, literal_at, ArePairs, places_in}
 use Rattle.sc_rules.specs.Conflict.{Conflicts}
-use Rattle.sc_rules.specs.Subsumption.{Subsumes}
+use Rattle.sc_subsume.specs.Subsumption.{Subsumes}
 use Rattle.sc_rules.specs.Rewriting.{number_of, HasRedex, BecomesDemodulator, IsDemodulator}
 use Rattle.sc_rules.specs.Book.{Book, IsSound, numbered_clauses, live, next_number, with_derived, with_deleted}
 use Rattle.sc_rules.specs.Processing.{Drops, with_kept, IsRival, AreOthers, with_demodulator, Sweeps, Keeps, MeetsFate, ProcessingIsOne}

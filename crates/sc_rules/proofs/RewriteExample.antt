@@ -1,6 +1,5 @@
 -- Worked: p(f(e,a)) is rewritten by f(e,x0) = x0 to p(a).
 use Rattle.std.proofs.Common.{◌≡◌, ◌∙◌, ap, refl, sym, subst, ℕ, zero, suc, ◌<◌, ◌⊎◌, inl, inr, List, [], ◌∷◌, arith, true, Some, None, Option, get_or, map}
-use Rattle.std.specs.Prelude.{IsSomeAnd, slice_get}
 use Rattle.std.specs.List.{Contains}
 use Rattle.sc_data.specs.declared.SymId.{SymId}
 use Rattle.sc_data.specs.declared.Side.TheVariants.{Left}
@@ -11,18 +10,18 @@ use Rattle.sc_data.specs.declared.Clause.{Clause}
 use Rattle.sc_data.specs.declared.Line.{Line}
 use Rattle.sc_data.specs.declared.Step.TheVariants.{Input, Instance, Para}
 use Rattle.sc_data.specs.Term.{term_instance, term_weight, weight_step, term_depth, depth_step}
-use Rattle.sc_data.specs.Clause.{instance, width, variables, IsWithinLimits}
+use Rattle.sc_data.specs.Clause.{instance, width, IsWithinLimits}
 use Rattle.sc_data.specs.Refuted.{equation}
 use Rattle.sc_data.specs.Path.{IsSubtermAt}
 use Rattle.sc_data.specs.Numbering.{numbered}
 use Rattle.sc_data.proofs.TermLaws.{width-Var, width-App, instance-Var, instance-App, weight-App, depth-App, fold-Var, App-injective}
 use Rattle.sc_data.specs.declared.Numbered.{Numbered}
-use Rattle.sc_steps.specs.Derivation.{IsInputAt}
 use Rattle.sc_rules.specs.Derivation.{Adds, AddsPart, AreTermsTo}
 use Rattle.sc_rules.specs.Rewriting.{number_of, IsEquation, Fits, IsRedex, IsBeforeInPostOrder, IsFirstRedex, RewritesOnce}
 use Rattle.sc_rules.specs.Order.{IsBefore}
 use Rattle.sc_data.proofs.TermSteps.{variables-Var, variables-App}
-use Rattle.sc_rules.proofs.NumberLaws.{numbered-suc}
+use Rattle.sc_rules.proofs.Enumerations.{numbered_none, numbered_two}
+use Rattle.sc_rules.proofs.DerivationCases.{adds_input, adds_instance, terms_of_one}
 use Rattle.sc_rules.proofs.OrderLaws.{not_before_itself}
 
 abbrev symbol : ℕ → SymId
@@ -68,20 +67,17 @@ none_fits d n less (suc k, within, same) h = absurd (omega arith)
 
 -- ---- the subterms of e and a
 
-no_element : (n : ℕ) (t : Term) → ¬ (numbered [] n ≡ Some t)
-no_element zero t h = cc
-no_element (suc n) t h = let none : ◌≡◌ {A = Option Term} None (Some t) = sym (numbered-suc [] n) ∙ h in cc
-
 nothing_under : (path : List ℕ) (t : Term) → ¬ IsSubtermAt [] path t
 nothing_under [] t h = h
-nothing_under (i ∷ []) t h = no_element i t h
-nothing_under (i ∷ j ∷ path) t h = no_element i (App h.0 h.1) h.2
+nothing_under (i ∷ []) t h = numbered_none i t h
+nothing_under (i ∷ j ∷ path) t h = numbered_none i (App h.0 h.1) h.2
 
 of_two : (n : ℕ) (t : Term) → numbered (e ∷ a ∷ []) n ≡ Some t → (t ≡ e) ⊎ (t ≡ a)
-of_two zero t h = cc
-of_two (suc zero) t h = inl cc
-of_two (suc (suc zero)) t h = inr cc
-of_two (suc (suc (suc n))) t h = let none : ◌≡◌ {A = Option Term} None (Some t) = sym (numbered-suc (e ∷ a ∷ []) (suc (suc n))) ∙ h in cc
+of_two n t h = by (numbered_two e a n t h)
+  where
+    by : ((n ≡ 1) × (e ≡ t)) ⊎ ((n ≡ 2) × (a ≡ t)) → (t ≡ e) ⊎ (t ≡ a)
+    by (inl k) = inl (sym k.1)
+    by (inr k) = inr (sym k.1)
 
 bare : (n : ℕ) (g : SymId) (inner : List Term) (path : List ℕ) (t : Term) → App g inner ≡ App (symbol n) [] → ¬ IsSubtermAt inner path t
 bare n g inner path t same h = nothing_under path t (subst (λ ts. IsSubtermAt ts path t) (App-injective g (symbol n) inner [] same).1 h)
@@ -163,30 +159,18 @@ lines_after =
 instance_so : instance (a ∷ []) rule ≡ rule_instance
 instance_so = simp (instance-App, instance-Var)
 
-no_input : (k : ℕ) → ¬ IsInputAt lines_before 1 k
-no_input zero h = h
-no_input (suc zero) h = cc
-no_input (suc (suc k)) h = subst (λ (l : Option Line). IsSomeAnd l (λ line. line.step ≡ Input 1)) (numbered-suc lines_before (suc k)) h
-
 wide : width rule ≡ 1
 wide = simp (width-App, width-Var)
 
 terms_so : AreTermsTo rule rule_instance (a ∷ [])
-terms_so = record { many = sym wide; gives = instance_so; rest = occurs }
-  where
-    has : variables rule ≡ 0 ∷ 0 ∷ []
-    has = simp (variables-App, variables-Var)
-
-    occurs : (n : ℕ) → n < width rule → ¬ Contains (variables rule) n → slice_get (a ∷ []) n ≡ Some (Var 0)
-    occurs zero h absent = absurd (absent (subst (λ ns. Contains ns 0) (sym has) (0, omega arith, refl)))
-    occurs (suc n) h absent = absurd (omega (arith, h, wide))
+terms_so = terms_of_one rule rule_instance a (0 ∷ []) wide (simp (variables-App, variables-Var)) instance_so
 
 other_part : ¬ (rule_instance ≡ rule)
 other_part h =
     let same : a ≡ Var 0 = ap (λ (c : Clause). get_or (get_or c.literals 0 (equation true (Var 0) (Var 0))).args 1 (Var 0)) h in cc
 
 shows : AddsPart lines_before demodulator rule_instance lines_instance 3
-shows = (lines_input, 2, inr (no_input, refl, refl), inr (other_part, (a ∷ [], terms_so, (rule_instance, (sym wide, sym instance_so), refl), refl)))
+shows = adds_instance lines_before demodulator rule_instance lines_input 2 (a ∷ []) lines_instance (adds_input lines_before demodulator refl) other_part terms_so (rule_instance, (sym wide, sym instance_so), refl)
 
 replaces : Adds lines_instance (Para 3 1 Left 1 1 (1 ∷ [])) lines_after
 replaces = (p a, (f e a, a, refl, (a ∷ [], (refl, refl), refl)), refl)

@@ -1,7 +1,7 @@
 -- Worked: the run of the one clause p in the set of support, without flags and finders.
 use Rattle.std.proofs.Common.{◌≡◌, sym, subst, refl, ℕ, zero, suc, ◌<◌, inl, inr, List, [], ◌∷◌, arith, true, false, Some, None}
 use Rattle.std.specs.List.{Contains, All}
-use Rattle.sc_interp.specs.Versions.{ClaimedStructure}
+use Rattle.sc_interp.specs.Versions.{ClaimedStructure, opening}
 use Rattle.sc_rules.proofs.OrderLaws.{not_before_itself}
 use Rattle.sc_data.specs.declared.Clause.{Clause}
 use Rattle.sc_reading.specs.Problem.{Stated}
@@ -18,7 +18,6 @@ use Rattle.sc_rules.specs.declared.row.Outcome.TheVariants.{SosEmpty}
 use Rattle.sc_rules.specs.Order.{none, taken, passed, IsBefore, IsLeast}
 use Rattle.sc_rules.specs.Book.{Book}
 use Rattle.sc_rules.specs.Start.{Starts, EndsStart, input_clauses}
-use Rattle.sc_interp.specs.Versions.{opening}
 use Rattle.sc_interp.specs.Marks.{IsMark}
 use Rattle.sc_rules.specs.Selection.{IsGuide, Selects, IsAny, by_weight, opening_name}
 use Rattle.sc_rules.specs.Sites.{Site, Binary, Factor, Hyper, Ur, ParaFrom, ParaInto, IsSite, AreSites}

@@ -21,7 +21,8 @@ use Rattle.sc_rules.proofs.FilterLaws.{filter_is_one, filter_within, in_either}
 use Rattle.sc_rules.proofs.NumberLaws.{numbered-suc}
 use Rattle.sc_rules.proofs.SimplifyLaws.{NumbersTell, least_one}
 use Rattle.sc_rules.proofs.ProcessLaws.{where_case, conflict_one, same_numbered}
-use Rattle.sc_rules.proofs.SoundLaws.{StandsIn, numbered_append, derived_sound, each}
+use Rattle.sc_steps.proofs.LineLaws.{number_in_whole}
+use Rattle.sc_rules.proofs.SoundLaws.{StandsIn, derived_sound, each}
 use Rattle.sc_rules.proofs.SoundProcessing.{where_either}
 use Rattle.sc_rules.proofs.DemodulatorLaws.{home_of_demodulators}
 use Rattle.sc_rules.proofs.TurnLaws.{turns_one, turns_sound}
@@ -73,7 +74,7 @@ opened_sound problem book such h = record {
 }
   where
     stands : (p : Numbered) → Contains (input_clauses problem) p → StandsIn problem book p
-    stands p k = numbered_append problem.inputs (map (λ (d : Derived). d.clause) book.derived) p.number p.clause (input_stands problem p k)
+    stands p k = number_in_whole problem.inputs (map (λ (d : Derived). d.clause) book.derived) p.number p.clause (input_stands problem p k)
 
     one : (p : Numbered) → Contains book.usable p ⊎ Contains book.sos p → Contains (input_clauses problem) p
     one p (inl k) = (filter_within (IsAtHome problem Usable) p (input_clauses problem) book.usable h.usable k).0

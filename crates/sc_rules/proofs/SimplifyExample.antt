@@ -1,8 +1,7 @@
 -- Worked: a = f(a) is flipped; p(a) | q is cut to q by the unit -p(x0); what becomes a demodulator.
-use Rattle.std.proofs.Common.{◌≡◌, ◌∙◌, ap, refl, sym, subst, ℕ, zero, suc, ◌<◌, ◌≤◌, ◌⊎◌, inl, inr, List, [], ◌∷◌, arith, not, Bool, true, false, Some, Option, get_or, length}
-use Rattle.std.specs.Prelude.{IsSomeAnd, count_by, nat_eq}
+use Rattle.std.proofs.Common.{◌≡◌, ◌∙◌, ap, refl, sym, subst, ℕ, zero, suc, ◌<◌, ◌≤◌, inl, List, [], ◌∷◌, arith, Bool, true, false, Some, get_or}
+use Rattle.std.specs.Prelude.{count_by, nat_eq}
 use Rattle.std.specs.List.{Contains}
-use Rattle.sc_data.specs.declared.SymId.{SymId}
 use Rattle.sc_data.specs.declared.Term.{Term, Var}
 use Rattle.sc_data.specs.declared.Term.TheVariants.{App}
 use Rattle.sc_data.specs.declared.Literal.{Literal}
@@ -11,30 +10,29 @@ use Rattle.sc_data.specs.declared.Line.{Line}
 use Rattle.sc_data.specs.declared.Numbered.{Numbered}
 use Rattle.sc_data.specs.declared.Step.TheVariants.{Input, Instance, Resolve, Flip}
 use Rattle.sc_data.specs.Numbering.{numbered}
-use Rattle.sc_data.specs.Term.{term_weight, weight_step, term_variables, term_instance}
-use Rattle.sc_data.specs.Clause.{instance, width, variables, literal_instance}
-use Rattle.sc_data.specs.Refuted.{equation, Atom, atom_of}
-use Rattle.sc_data.proofs.TermLaws.{fold-Var, weight-App, width-Var, width-App, instance-Var, instance-App}
+use Rattle.sc_data.specs.Term.{term_weight, weight_step, term_variables}
+use Rattle.sc_data.specs.Clause.{instance, width}
+use Rattle.sc_data.specs.Refuted.{equation, Atom}
+use Rattle.sc_data.proofs.TermLaws.{fold-Var, weight-App, width-Var, instance-Var}
 use Rattle.sc_data.proofs.TermSteps.{variables-Var, variables-App}
-use Rattle.sc_steps.specs.Derivation.{last_clause}
 use Rattle.sc_rules.specs.Order.{IsBefore, Exhausts, ends, goes}
-use Rattle.sc_rules.specs.Derivation.{Adds, AddsPart}
+use Rattle.sc_rules.specs.Derivation.{AddsPart}
 use Rattle.sc_rules.specs.Rewriting.{number_of, IsEquation, BecomesDemodulator}
 use Rattle.sc_rules.specs.Simplification.{IsUphill, Orients, Removes, IsRemovable, DeletesOnce}
-use Rattle.sc_rules.proofs.Enumerations.{in_one, numbered_one, numbered_two}
+use Rattle.sc_rules.proofs.Enumerations.{in_one, numbered_one}
 use Rattle.sc_rules.proofs.DerivationCases.{adds_input, adds_instance, terms_of_one}
 use Rattle.sc_rules.proofs.OrderLaws.{not_before_itself}
 
 weight-Var : (n : ℕ) → term_weight (Var n) ≡ 1
 weight-Var n = fold-Var ℕ weight_step n
 
-abbrev a : Term
+abbrev pub a : Term
 a = App (record { 0 = 4 }) []
 
 abbrev b : Term
 b = App (record { 0 = 5 }) []
 
-abbrev f : List Term → Term
+abbrev pub f : List Term → Term
 f ts = App (record { 0 = 3 }) ts
 
 abbrev unit_of : Literal → Clause
@@ -45,7 +43,7 @@ unit_of l = record { literals = l ∷ [] }
 abbrev uphill : Clause
 uphill = unit_of (equation true a (f (a ∷ [])))
 
-abbrev downhill : Clause
+abbrev pub downhill : Clause
 downhill = unit_of (equation true (f (a ∷ [])) a)
 
 abbrev first_line : Line
@@ -164,7 +162,7 @@ becomes = record {
   fewer = λ v. simp variables-App (omega arith);
 }
 
-sides_of : (l r s t : Term) → IsEquation (unit_of (equation true l r)) s t → (l ≡ s) × (r ≡ t)
+pub sides_of : (l r s t : Term) → IsEquation (unit_of (equation true l r)) s t → (l ≡ s) × (r ≡ t)
 sides_of l r s t h = (ap (λ (ls : List Literal). get_or (get_or ls 0 q).args 0 (Var 0)) h, ap (λ (ls : List Literal). get_or (get_or ls 0 q).args 1 (Var 0)) h)
 
 -- f(a,b) = f(b,a) doesn't, since both sides weigh the same

@@ -1,6 +1,7 @@
 -- Processing keeps a book sound.
-use Rattle.std.proofs.Common.{◌≡◌, ◌∙◌, sym, ap, subst, refl, ℕ, zero, suc, ◌+◌, ◌-◌, ◌==◌, ◌⊎◌, inl, inr, List, [], ◌∷◌, ◌++◌, length, map, Option, Some, None, Bool, true, false, not, cond, if◌then◌else◌, slice_get, arith, nat_eq}
+use Rattle.std.proofs.Common.{◌≡◌, ◌∙◌, sym, ap, subst, ℕ, ◌⊎◌, inl, inr, List, [], ◌∷◌, ◌++◌, append_assoc, map, Some, Bool, true, false, not, cond, arith, nat_eq}
 use Rattle.std.specs.List.{Contains, All, filter, list_any}
+use Rattle.std.proofs.lemmas.List.{map-append}
 use Rattle.std.proofs.lemmas.List.Elements.{Contains-get_or}
 use Rattle.sc_data.specs.declared.Clause.{Clause}
 use Rattle.sc_data.specs.declared.Line.{Line}
@@ -13,43 +14,14 @@ use Rattle.sc_rules.specs.Book.{Book, IsSound, numbered_clauses, live, next_numb
 use Rattle.sc_rules.specs.Processing.{with_kept, with_demodulator}
 use Rattle.sc_rules.proofs.OrderLaws.{first_or_later, later}
 use Rattle.sc_rules.proofs.FilterLaws.{in_either, in_first, in_second}
-use Rattle.sc_rules.proofs.NumberLaws.{numbered-suc}
+use Rattle.sc_steps.proofs.LineLaws.{number_in_whole, number_of_end}
 
--- ---- numbers in a list that grows
-
-got_append : {X : Type 0} (xs ys : List X) (i : ℕ) (x : X) → slice_get xs i ≡ Some x → slice_get (xs ++ ys) i ≡ Some x
-got_append {X} [] ys i x h = let bad : ◌≡◌ {A = Option X} None (Some x) = h in cc
-got_append (y ∷ xs) ys zero x h = h
-got_append (y ∷ xs) ys (suc i) x h = got_append xs ys i x h
-
-got_last : {X : Type 0} (xs : List X) (x : X) → slice_get (xs ++ x ∷ []) (length xs) ≡ Some x
-got_last [] x = refl
-got_last (y ∷ xs) x = got_last xs x
-
-pub numbered_append : {X : Type 0} (xs ys : List X) (n : ℕ) (x : X) → numbered xs n ≡ Some x → numbered (xs ++ ys) n ≡ Some x
-numbered_append {X} xs ys n x h = by (n == 0) refl
-  where
-    by : (b : Bool) → (n == 0) ≡ b → numbered (xs ++ ys) n ≡ Some x
-    by true e = let bad : ◌≡◌ {A = Option X} None (Some x) = sym (ap (λ b. if b then None else slice_get xs (n - 1)) e) ∙ h in cc
-    by false e = ap (λ b. if b then None else slice_get (xs ++ ys) (n - 1)) e ∙ got_append xs ys (n - 1) x (sym (ap (λ b. if b then None else slice_get xs (n - 1)) e) ∙ h)
-
-numbered_last : {X : Type 0} (xs : List X) (x : X) → numbered (xs ++ x ∷ []) (length xs + 1) ≡ Some x
-numbered_last xs x =
-    let e : length xs + 1 ≡ suc (length xs) = omega arith in
-    ap (numbered (xs ++ x ∷ [])) e ∙ numbered-suc (xs ++ x ∷ []) (length xs) ∙ got_last xs x
-
-map_one_more : {X Y : Type 0} (g : X → Y) (xs : List X) (x : X) → map g (xs ++ x ∷ []) ≡ map g xs ++ g x ∷ []
-map_one_more g [] x = refl
-map_one_more g (y ∷ xs) x = λ i. g y ∷ map_one_more g xs x i
-
-append_one_more : {X : Type 0} (xs ys : List X) (x : X) → xs ++ (ys ++ x ∷ []) ≡ (xs ++ ys) ++ x ∷ []
-append_one_more [] ys x = refl
-append_one_more (y ∷ xs) ys x = λ i. y ∷ append_one_more xs ys x i
+-- ---- the clauses that have a number
 
 pub grown : (problem : Stated) (book : Book) (c : Clause) (lines : List Line) → numbered_clauses problem (with_derived book c lines) ≡ numbered_clauses problem book ++ c ∷ []
 grown problem book c lines =
-    ap (λ (cs : List Clause). problem.inputs ++ cs) (map_one_more (λ (d : Derived). d.clause) book.derived (record { clause = c; lines = lines }))
-    ∙ append_one_more problem.inputs (map (λ (d : Derived). d.clause) book.derived) c
+    ap (λ (cs : List Clause). problem.inputs ++ cs) (map-append (λ (d : Derived). d.clause) book.derived (record { clause = c; lines = lines } ∷ []))
+    ∙ sym (append_assoc problem.inputs (map (λ (d : Derived). d.clause) book.derived) (c ∷ []))
 
 -- ---- what makes a book sound
 
@@ -85,7 +57,7 @@ derived_sound problem old c lines sound = still_sound problem old (with_derived 
   where
     grows : (problem : Stated) (old : Book) (c : Clause) (lines : List Line) (p : Numbered) → StandsIn problem old p → StandsIn problem (with_derived old c lines) p
     grows problem old c lines p h =
-        subst (λ (cs : List Clause). numbered cs p.number ≡ Some p.clause) (sym (grown problem old c lines)) (numbered_append (numbered_clauses problem old) (c ∷ []) p.number p.clause h)
+        subst (λ (cs : List Clause). numbered cs p.number ≡ Some p.clause) (sym (grown problem old c lines)) (number_in_whole (numbered_clauses problem old) (c ∷ []) p.number p.clause h)
 
 module _ (problem : Stated) (old : Book) (c : Clause) (lines : List Line) (turn : ℕ) where
   abbrev pub kept_one : Numbered
@@ -95,10 +67,10 @@ module _ (problem : Stated) (old : Book) (c : Clause) (lines : List Line) (turn 
   kept = with_kept problem old c lines turn
 
   pub kept_stands : StandsIn problem kept kept_one
-  kept_stands = subst (λ (cs : List Clause). numbered cs (next_number problem old) ≡ Some c) (sym (grown problem old c lines)) (numbered_last (numbered_clauses problem old) c)
+  kept_stands = subst (λ (cs : List Clause). numbered cs (next_number problem old) ≡ Some c) (sym (grown problem old c lines)) (number_of_end (numbered_clauses problem old) c)
 
   kept_grows : (p : Numbered) → StandsIn problem old p → StandsIn problem kept p
-  kept_grows p h = subst (λ (cs : List Clause). numbered cs p.number ≡ Some p.clause) (sym (grown problem old c lines)) (numbered_append (numbered_clauses problem old) (c ∷ []) p.number p.clause h)
+  kept_grows p h = subst (λ (cs : List Clause). numbered cs p.number ≡ Some p.clause) (sym (grown problem old c lines)) (number_in_whole (numbered_clauses problem old) (c ∷ []) p.number p.clause h)
 
   live_split : (m : Numbered) → Contains (live kept) m → (kept_one ≡ m) ⊎ Contains (live old) m
   live_split m h = by (in_either m (old.usable ++ (old.sos ++ kept_one ∷ [])) old.passive h)

@@ -1,5 +1,5 @@
 -- Worked: the one site of UR-resolution of -p(x0) | q(x0) | s with p(a) and -s.
-use Rattle.std.proofs.Common.{◌≡◌, ◌≢◌, ◌∙◌, refl, sym, ap, subst, ℕ, zero, suc, ◌+◌, ◌<◌, ◌≤◌, ◌⊎◌, inl, inr, List, [], ◌∷◌, length, map, arith, not, true, false, Bool, Some}
+use Rattle.std.proofs.Common.{◌≡◌, ◌≢◌, ◌∙◌, refl, sym, ap, subst, ℕ, zero, suc, ◌<◌, ◌≤◌, ◌⊎◌, inl, inr, List, [], ◌∷◌, length, map, arith, true, false, Bool, Some, get_or}
 use Rattle.std.specs.Prelude.{IsSomeAnd}
 use Rattle.std.specs.List.{Contains, All}
 use Rattle.sc_data.specs.declared.Term.{Term, Var}
@@ -8,33 +8,26 @@ use Rattle.sc_data.specs.declared.Literal.{Literal}
 use Rattle.sc_data.specs.declared.Clause.{Clause}
 use Rattle.sc_data.specs.declared.Numbered.{Numbered}
 use Rattle.sc_data.specs.declared.Pair.{Pair}
-use Rattle.sc_data.specs.Term.{value_of}
+use Rattle.sc_data.specs.Term.{value_of, term_under}
 use Rattle.sc_data.specs.Numbering.{numbered}
 use Rattle.sc_data.specs.Refuted.{Atom}
-use Rattle.sc_data.specs.Substitution.{Substitution, IsUnifier, Unify, literal_under}
-use Rattle.sc_data.specs.JointInstance.{apart}
-use Rattle.sc_data.proofs.TermSteps.{under-Var, under-App}
+use Rattle.sc_data.specs.Substitution.{Substitution, IsUnifier, Unify, literal_under, IsInstanceOf, clause_under}
+use Rattle.sc_data.specs.JointInstance.{apart, renumbered, IsJointInstance}
+use Rattle.sc_data.proofs.TermSteps.{under-Var, under-App, variables-Var, variables-App}
 use Rattle.sc_rules.specs.declared.site.UrSite.{UrSite}
-use Rattle.sc_rules.specs.Pairing.{Place, literal_at, ArePairs, HaveOppositeSigns, places_in, places_from}
-use Rattle.sc_rules.specs.Inference.{Inference, Resolving, parent_clauses}
+use Rattle.sc_rules.specs.Pairing.{ArePairs, places_in, places_from}
+use Rattle.sc_rules.specs.Inference.{Inference, Resolving, Ends, Concludes}
 use Rattle.sc_rules.specs.Hyperresolution.{AreLiteralsWith, AreNamed, IsUr, AreUrSites, ur_numbers, unit_literals}
-use Rattle.sc_rules.specs.Order.{IsBefore, AreInOrder}
+use Rattle.sc_rules.specs.Order.{IsBefore}
 use Rattle.sc_rules.proofs.Enumerations.{in_three, numbered_one, numbered_three, some_of_three, all_of_one, all_of_two, pairs_of_one, pairs_of_two}
-use Rattle.sc_rules.proofs.PairLaws.{unifier_of_two, opposite_two, same_sign}
+use Rattle.sc_rules.proofs.PairLaws.{unifier_of_two, opposite_two}
 use Rattle.sc_rules.proofs.DerivationLaws.{compared}
 use Rattle.sc_rules.proofs.OrderLaws.{in_order_is_one}
-use Rattle.std.proofs.Common.{get_or}
 use Rattle.sc_data.specs.declared.Line.{Line}
-use Rattle.sc_data.specs.Clause.{instance, variables, width}
-use Rattle.sc_data.specs.Term.{term_under}
-use Rattle.sc_data.specs.Substitution.{IsInstanceOf, clause_under}
-use Rattle.sc_data.specs.JointInstance.{renumbered, IsJointInstance}
-use Rattle.sc_data.proofs.TermSteps.{variables-Var, variables-App}
-use Rattle.sc_data.proofs.TermLaws.{width-Var, width-App, instance-Var, instance-App, weight-App, depth-App}
-use Rattle.sc_steps.specs.declared.derivation.Derived.{Derived}
-use Rattle.sc_rules.specs.Derivation.{Adds, AddsPart, AddsParts}
-use Rattle.sc_rules.specs.Inference.{Ends, Concludes}
-use Rattle.sc_rules.proofs.DerivationCases.{adds_input, adds_whole, adds_instance, terms_of_one, terms_of_two}
+use Rattle.sc_data.specs.Clause.{instance, width}
+use Rattle.sc_data.proofs.TermLaws.{width-Var, instance-Var, weight-App, depth-App}
+use Rattle.sc_rules.specs.Derivation.{AddsPart, AddsParts}
+use Rattle.sc_rules.proofs.DerivationCases.{adds_input, adds_whole, adds_instance, terms_of_one}
 use Rattle.sc_data.specs.declared.Step.TheVariants.{Input, Instance, Resolve}
 
 abbrev pub a : Term

@@ -1,5 +1,5 @@
 -- What the prover keeps: its clauses, their lists and the demodulators.
-use Rattle.std.specs.Prelude.{All, Some, ◌≡◌, ℕ, ◌+◌, List, [], ◌∷◌, ◌++◌, length, map, filter, not, nat_eq}
+use Rattle.std.specs.Prelude.{All, Some, ◌≡◌, ℕ, ◌+◌, List, [], ◌∷◌, ◌++◌, length, filter, not, nat_eq}
 use Rattle.std.specs.List.{list_any}
 use Rattle.sc_data.specs.declared.Clause.{Clause}
 use Rattle.sc_data.specs.declared.Line.{Line}

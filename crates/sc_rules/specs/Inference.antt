@@ -8,9 +8,14 @@ use Rattle.sc_data.specs.Clause.{IsWithinLimits}
 use Rattle.sc_data.specs.declared.Pair.{Pair}
 use Rattle.sc_data.specs.declared.Numbered.{Numbered}
 use Rattle.sc_steps.specs.declared.derivation.Derived.{Derived}
+use Rattle.sc_steps.specs.declared.made.Made.{Made}
 use Rattle.sc_data.specs.JointInstance.{IsJointInstance, whole}
 use Rattle.sc_steps.specs.Derivation.{last_clause}
 use Rattle.sc_rules.specs.Derivation.{Adds, AddsParts, EndsCanonical}
+
+-- what a maker answers, as a value: the clause with its lines
+abbrev pub derived_of : Made → Derived
+derived_of made = record { clause = made.clause; lines = made.lines }
 
 -- what is done with the parts of the parents in their joint instance
 pub data Ending : Type 0 where

@@ -6,7 +6,6 @@ pub mod Resolution
 pub mod Hyperresolution
 pub mod Paramodulation
 pub mod Sites
-pub mod Subsumption
 pub mod Rewriting
 pub mod Simplification
 pub mod Book

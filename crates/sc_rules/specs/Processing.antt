@@ -8,7 +8,7 @@ use Rattle.sc_steps.specs.declared.derivation.Derived.{Derived}
 use Rattle.sc_rules.specs.declared.fate.Fate.{Fate}
 use Rattle.sc_rules.specs.declared.fate.Fate.TheVariants.{Kept, Empty, Taut, Heavy, Long, Subsumed}
 use Rattle.sc_rules.specs.declared.fate.Processed.{Processed}
-use Rattle.sc_rules.specs.Subsumption.{Subsumes, IsTautology}
+use Rattle.sc_subsume.specs.Subsumption.{Subsumes, IsTautology}
 use Rattle.sc_rules.specs.Rewriting.{number_of, HasRedex, BecomesDemodulator}
 use Rattle.sc_rules.specs.Simplification.{Simplifies}
 use Rattle.sc_steps.specs.Derivation.{last_clause}

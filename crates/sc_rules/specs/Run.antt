@@ -1,6 +1,10 @@
 -- Runs of the given-clause machine over a list of looks.
-use Rattle.std.specs.Prelude.{◌≡◌, ℕ, List, [], ◌∷◌, ◌++◌, Option, IsSome, option_map, map, take, AllPairs}
+use Rattle.std.specs.Prelude.{◌≡◌, ℕ, List, [], ◌∷◌, ◌++◌, Option, Some, IsSome, option_map, map, take, AllPairs}
 use Rattle.std.specs.List.{AllZip}
+use Rattle.sc_data.specs.declared.Line.{Line}
+use Rattle.sc_data.specs.Proof.{IsProof}
+use Rattle.sc_data.specs.Refuted.{IsRefuted}
+use Rattle.sc_steps.specs.Splice.{IsSplice}
 use Rattle.sc_reading.specs.Problem.{Stated}
 use Rattle.sc_rules.specs.declared.row.GivenRow.{GivenRow}
 use Rattle.sc_rules.specs.declared.row.Outcome.TheVariants.{Proof}
@@ -62,3 +66,10 @@ looks_after last (row ∷ rows) lists = prefixes row.lengths lists ∷ looks_aft
 
 abbrev pub looks_of : List GivenRow → Seen → List Seen
 looks_of rows lists = looks_after (map (λ versions. []) lists) rows lists
+
+-- ---- a proof
+
+-- where a run has found the empty clause, the lines put together for it are a proof, and the input clauses are refuted
+abbrev pub RunRefutes : Type 0
+RunRefutes = (problem : Stated) (looks : List Seen) (run : Run) (goal : ℕ) (lines : List Line) → IsProblem problem → IsRun problem looks run → run.goal ≡ Some goal
+    → IsSplice problem.inputs run.book.derived goal lines → IsProof problem.inputs lines × IsRefuted problem.inputs

@@ -3,15 +3,14 @@ use Rattle.std.specs.Prelude.{◌≡◌, ◌≢◌, ◌<◌, ◌⊎◌, ℕ, ◌
 use Rattle.sc_data.specs.Numbering.{numbered}
 use Rattle.sc_reading.specs.Problem.{Stated}
 use Rattle.sc_data.specs.declared.Numbered.{Numbered}
-use Rattle.sc_interp.specs.Versions.{ClaimedStructure}
+use Rattle.sc_interp.specs.Versions.{ClaimedStructure, opening}
 use Rattle.sc_interp.specs.declared.plain.VersionName.{VersionName}
 use Rattle.sc_interp.specs.declared.plain.Truth.TheVariants.{False}
+use Rattle.sc_rules.specs.Rewriting.{number_of}
 use Rattle.sc_rules.specs.declared.row.Cause.{Cause}
 use Rattle.sc_rules.specs.declared.row.Cause.TheVariants as cause
-use Rattle.sc_interp.specs.Versions.{opening}
 use Rattle.sc_interp.specs.Marks.{IsMark}
 use Rattle.sc_rules.specs.Book.{weight_in}
-use Rattle.sc_rules.specs.Rewriting.{number_of}
 use Rattle.sc_rules.specs.Order.{Where, IsLeast}
 
 -- ---- the guide

@@ -1,14 +1,13 @@
 -- The start of a run: the input clauses go to their lists, and the first empty clause or conflict of units ends it.
-use Rattle.std.specs.Prelude.{All, ◌≡◌, ◌<◌, ◌⊎◌, ℕ, ◌+◌, List, [], ◌∷◌, Contains, Option, Some, None, length}
+use Rattle.std.specs.Prelude.{◌≡◌, ◌<◌, ◌⊎◌, ℕ, ◌+◌, List, [], ◌∷◌, Contains, Option, Some, None, length}
 use Rattle.sc_data.specs.declared.Clause.{Clause}
 use Rattle.sc_data.specs.Numbering.{numbered}
-use Rattle.sc_data.specs.Clause.{IsCanonical}
 use Rattle.sc_reading.specs.Problem.{Stated}
 use Rattle.sc_data.specs.declared.Numbered.{Numbered}
 use Rattle.sc_reading.specs.declared.settings.Home.{Home}
 use Rattle.sc_reading.specs.declared.settings.Home.TheVariants.{Usable, Sos, Passive, Demodulators}
 use Rattle.sc_steps.specs.declared.derivation.Derived.{Derived}
-use Rattle.sc_rules.specs.Rewriting.{number_of, IsDemodulator}
+use Rattle.sc_rules.specs.Rewriting.{number_of}
 use Rattle.sc_rules.specs.Book.{Book, with_derived}
 use Rattle.sc_rules.specs.Conflict.{Conflicts}
 use Rattle.sc_rules.specs.Order.{Where, IsFilter, IsLeast}
