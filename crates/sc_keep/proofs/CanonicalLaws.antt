@@ -170,11 +170,11 @@ any_there n (m ∷ ms) h = by (λ k. any_there n ms k) (first_or_later n m ms h)
     by below (inl e) = or_left (nat_eq n m) _ (same (nat_eq n m) refl e)
     by below (inr k) = or_right (nat_eq n m) _ (below k)
 
-all_each : (P : ℕ → Type 0) (ns : List ℕ) → ((n : ℕ) → Contains ns n → P n) → AllByRecursion P ns
+pub all_each : (P : ℕ → Type 0) (ns : List ℕ) → ((n : ℕ) → Contains ns n → P n) → AllByRecursion P ns
 all_each P [] h = tt
 all_each P (n ∷ ns) h = (h n (0, omega arith, refl), all_each P ns (λ m k. h m (later m n ns k)))
 
-all_firsts : (P : ℕ → Type 0) (seen ns : List ℕ) → AllByRecursion P ns → AllByRecursion P (firsts_after seen ns)
+pub all_firsts : (P : ℕ → Type 0) (seen ns : List ℕ) → AllByRecursion P ns → AllByRecursion P (firsts_after seen ns)
 all_firsts P seen [] h = tt
 all_firsts P seen (n ∷ ns) h = by (list_any (nat_eq n) seen) (all_firsts P seen ns h.1) (all_firsts P (n ∷ seen) ns h.1)
   where
@@ -182,7 +182,7 @@ all_firsts P seen (n ∷ ns) h = by (list_any (nat_eq n) seen) (all_firsts P see
     by true e f = e
     by false e f = (h.0, f)
 
-all_at : (P : ℕ → Type 0) (ns : List ℕ) (k : ℕ) → AllByRecursion P ns → k < length ns → P (get_or ns k 0)
+pub all_at : (P : ℕ → Type 0) (ns : List ℕ) (k : ℕ) → AllByRecursion P ns → k < length ns → P (get_or ns k 0)
 all_at P [] k h less = absurd (omega arith)
 all_at P (n ∷ ns) zero h less = h.0
 all_at P (n ∷ ns) (suc k) h less = all_at P ns k h.1 (omega arith)

@@ -4,3 +4,4 @@ pub mod CanonicalLaws
 pub mod EndLaws
 pub mod SweepLaws
 pub mod PartLaws
+pub mod AddingLaws

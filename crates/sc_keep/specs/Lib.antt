@@ -4,3 +4,4 @@ pub mod Repeated
 pub mod Canonical
 pub mod Sweep
 pub mod Parts
+pub mod Adding

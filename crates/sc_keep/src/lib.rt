@@ -9,6 +9,7 @@
 //! Clauses are scanned where they stand, each once a call.
 #![tactic(auto)]
 
+mod adding;
 mod canonical;
 mod forward;
 mod merge;
