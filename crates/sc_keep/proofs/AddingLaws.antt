@@ -79,8 +79,20 @@ module _ (lines : List Line) (p : Numbered) (terms : List Term) (fresh : (j : �
       subst (λ o. IsSomeAnd o (λ of. (length terms ≡ width of) × (line.clause ≡ instance terms of))) (sym mid_there) (many, h.clause) in
       let ended : length after ≡ length mid + 1 = ap (λ (ls : List Line). length ls) grown ∙ length-append mid (line ∷ []) in
       record {
-        adds = (mid, length lines + 1, input_added, inr (h.other, (terms, terms_to_part p.clause terms canonical many,
-            (line.clause, follows, grown ∙ (λ i. mid ++ record { step = (h.step ∙ ap (λ n. Instance n terms) at) i; clause = line.clause } ∷ [])), omega (arith, here, last, ended))));
+        adds = (
+          mid,
+          length lines + 1,
+          input_added,
+          inr (
+            h.other,
+            (
+              terms,
+              terms_to_part p.clause terms canonical many,
+              (line.clause, follows, grown ∙ (λ i. mid ++ record { step = (h.step ∙ ap (λ n. Instance n terms) at) i; clause = line.clause } ∷ [])),
+              omega (arith, here, last, ended),
+            ),
+          ),
+        );
         there = ap (clause_of after) (here ∙ ap (λ n. n + 1) last) ∙ ap (λ ls. clause_of ls (length mid + 1)) grown ∙ clause_of_end mid line ∙ ap (λ (d : Clause). Some d) h.clause;
         stays = λ j c e. ap (λ ls. clause_of ls j) grown ∙ clause_in_whole mid (line ∷ []) j c (mid_stays j c e);
         few = omega (arith, long, ended);

@@ -26,7 +26,7 @@ last_there x xs = in_second x xs (x ∷ []) (at_first x [])
 
 module _ (P : Numbered → Type 0) (front : List Numbered) (p : Numbered) where
   -- what the last element can't change
-  keeps : (m : Numbered) → IsLeast number_of P front m → (P p → ¬ (p.number < m.number)) → IsLeast number_of P (front ++ p ∷ []) m
+  pub keeps : (m : Numbered) → IsLeast number_of P front m → (P p → ¬ (p.number < m.number)) → IsLeast number_of P (front ++ p ∷ []) m
   keeps m h never = record { listed = in_first m front (p ∷ []) h.listed; holds = h.holds; least = λ y there holds less. by y holds less (front_or_last y p front there) }
     where
       smaller : (y : Numbered) → IsBefore (number_of y) (number_of m) → y.number < m.number
@@ -42,7 +42,7 @@ module _ (P : Numbered → Type 0) (front : List Numbered) (p : Numbered) where
   not_below None never h = absurd (never tt)
   not_below (Some n) never h = (h.0, keeps h.0 h.1 (λ holds less. never (subst (λ k. p.number < k) h.2 less)), h.2)
 
-  still_none : ¬ P p → ((y : Numbered) → Contains front y → ¬ P y) → (y : Numbered) → Contains (front ++ p ∷ []) y → ¬ P y
+  pub still_none : ¬ P p → ((y : Numbered) → Contains front y → ¬ P y) → (y : Numbered) → Contains (front ++ p ∷ []) y → ¬ P y
   still_none never h y there holds = by (front_or_last y p front there)
     where
       by : Contains front y ⊎ (p ≡ y) → ⊥
@@ -54,8 +54,8 @@ module _ (P : Numbered → Type 0) (front : List Numbered) (p : Numbered) where
   fails (Some n) never h = (h.0, keeps h.0 h.1 (λ holds less. never holds), h.2)
 
   -- one of lesser number with the property is the least
-  pub takes : (best : Option ℕ) → IsBelow p.number best → P p → IsLeastNumber P front best → IsLeastNumber P (front ++ p ∷ []) (Some p.number)
-  takes best below holds h = (p, record { listed = last_there p front; holds = holds; least = least best below h }, refl)
+  pub takes_least : (best : Option ℕ) → IsBelow p.number best → P p → IsLeastNumber P front best → IsLeast number_of P (front ++ p ∷ []) p
+  takes_least best below holds h = record { listed = last_there p front; holds = holds; least = least best below h }
     where
       smaller : (y : Numbered) → IsBefore (number_of y) (number_of p) → y.number < p.number
       smaller y (inl less) = less
@@ -71,6 +71,9 @@ module _ (P : Numbered → Type 0) (front : List Numbered) (p : Numbered) where
           by : Contains front y ⊎ (p ≡ y) → ⊥
           by (inl k) = in_front best below h y has (smaller y before) k
           by (inr e) = let less = smaller y before in let same : p.number ≡ y.number = ap (λ (q : Numbered). q.number) e in omega (arith, less, same)
+
+  pub takes : (best : Option ℕ) → IsBelow p.number best → P p → IsLeastNumber P front best → IsLeastNumber P (front ++ p ∷ []) (Some p.number)
+  takes best below holds h = (p, takes_least best below holds h, refl)
 
 -- one element more of a list behind others
 pub one_further : {X : Type 0} (front xs : List X) (i : ℕ) (x : X) → i < length xs → x ≡ get_or xs i x → (front ++ take i xs) ++ x ∷ [] ≡ front ++ take (i + 1) xs

@@ -5,3 +5,6 @@ pub mod EndLaws
 pub mod SweepLaws
 pub mod PartLaws
 pub mod AddingLaws
+pub mod ConflictFound
+pub mod RivalLaws
+pub mod FateLaws

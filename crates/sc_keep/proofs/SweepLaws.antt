@@ -18,9 +18,11 @@ module _ (P : Numbered → Type 0) (ps : List Numbered) (i : ℕ) (p : Numbered)
   more = (λ j. take i ps ++ here j ∷ []) ∙ sym (take_more ps i p less)
 
   pub one_picked : (before now after : List ℕ) → P p → after ≡ now ++ p.number ∷ [] → Picks P (take i ps) before now → Picks P (take (i + 1) ps) before after
-  one_picked before now after holds grown h =
-      (h.0 ++ p ∷ [], subst (λ xs. IsFilter P xs (h.0 ++ p ∷ [])) more (filter_append P (take i ps) (p ∷ []) h.0 (p ∷ []) h.1 (taken holds none)),
-      grown ∙ ap (λ ns. ns ++ p.number ∷ []) h.2 ∙ append_assoc before (numbers h.0) (p.number ∷ []) ∙ ap (λ ns. before ++ ns) (sym (map-append (λ (q : Numbered). q.number) h.0 (p ∷ []))))
+  one_picked before now after holds grown h = (
+    h.0 ++ p ∷ [],
+    subst (λ xs. IsFilter P xs (h.0 ++ p ∷ [])) more (filter_append P (take i ps) (p ∷ []) h.0 (p ∷ []) h.1 (taken holds none)),
+    grown ∙ ap (λ ns. ns ++ p.number ∷ []) h.2 ∙ append_assoc before (numbers h.0) (p.number ∷ []) ∙ ap (λ ns. before ++ ns) (sym (map-append (λ (q : Numbered). q.number) h.0 (p ∷ []))),
+  )
 
   pub one_passed : (before now : List ℕ) → ¬ P p → Picks P (take i ps) before now → Picks P (take (i + 1) ps) before now
   one_passed before now fails h =

@@ -1,22 +1,34 @@
-//! Parts of the prover's book: what a conclusion goes through before it is kept.
+//! What a conclusion goes through before it is kept, and how it joins the prover's lists.
 //!
-//! `merge_all` removes the literals of a conclusion that equal an earlier one, and `end_canonical` takes it to its
-//! canonical form, each with the lines of its derivation, as steps 4 and 5 of processing say (`MergesOnce` and
-//! `EndsCanonical` of `sc_rules`). `least_subsumer` finds the least number of a clause that subsumes it.
+//! In the order of processing: `merge_all` removes literals that equal an earlier one and `end_canonical` takes the
+//! canonical form, each with the lines of the derivation; `dropped` finds whether the conclusion is a tautology, too
+//! heavy, too long or subsumed, by the least live clause that does; `join` adds it to the lists; `live_rival` finds the
+//! least live unit that conflicts with it and makes the empty clause; `note_subsumed` and `leave_out` find the clauses
+//! that it subsumes and delete them.
 //!
-//! It stands on the definitions and laws of `sc_rules`, on sc_subsume's test and on sc_term's copies. Callers may rest
-//! on this: each call answers exactly what the definition of its name says, and want of memory is its one other answer.
-//! Clauses are scanned where they stand, each once a call.
+//! It stands on the definitions and laws of `sc_rules` (`MergesOnce`, `EndsCanonical`, `Conflicts`, `IsLeast`, `Book`),
+//! on sc_subsume's tests and on sc_unify's joint instances. Callers may rest on this: each call answers exactly what the
+//! definition in its contract says, and want of memory is its one other answer; `proofs/FateLaws` ties `dropped` to the
+//! fates of a conclusion. Clauses are scanned where they stand, each at most once a call.
 #![tactic(auto)]
 
 mod adding;
 mod canonical;
+mod dropping;
 mod forward;
+mod lists;
+mod live;
 mod merge;
 mod parts;
+mod rival;
 mod sweep;
+mod units;
 
 pub use canonical::end_canonical;
-pub use forward::least_subsumer;
+pub use dropping::dropped;
+pub use lists::{Lists, join};
+pub use live::{Live, live_rival, live_subsumer};
 pub use merge::merge_all;
+pub use rival::Rival;
 pub use sweep::{leave_out, note_subsumed};
+pub use units::conflict;
