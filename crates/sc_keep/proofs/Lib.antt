@@ -8,3 +8,5 @@ pub mod AddingLaws
 pub mod ConflictFound
 pub mod RivalLaws
 pub mod FateLaws
+pub mod SimplifyFound
+pub mod GivenLaws

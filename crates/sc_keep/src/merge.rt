@@ -73,7 +73,8 @@ fn next_merge(alloc: Global, lines: &[Line]) -> Mem<Option<Line>>
 /// Removes literals of the last clause that equal an earlier one, the first of them first, with a line for each.
 pub fn merge_all(alloc: Global, lines: &mut Items<Line>) -> Mem<()>
     requires { IsSomeAnd (last_clause lines.old) (λ c. length lines.old + length c.literals < 2 ^ 32) }
-    ensures { OnOk result (Exhausts MergesOnce lines.old lines.new) }
+    ensures merges { OnOk result (Exhausts MergesOnce lines.old lines.new) }
+    ensures short { OnOk result (IsSomeAnd (last_clause lines.new) (λ c. length lines.new + length c.literals < 2 ^ 32)) }
 {
     while let Some(line) = next_merge(alloc, lines.as_slice())? {
         lines.push(line)?;

@@ -25,6 +25,9 @@ loop-line-preserved c =
       leads = λ after h. c.loop-line.invariant.leads after (goes (subst (MergesOnce lines) grown one) h);
     }
 
-pub returns : goal.returns
-returns c = c.loop-line.invariant.leads c.loop-line.lines
+pub returns-clause-merges : goal.returns-clause-merges
+returns-clause-merges c = c.loop-line.invariant.leads c.loop-line.lines
     (ends (merge_ends c.as_slice.result.now c.loop-line.lines c.in_ok-line.field-0 c.as_slice.ensures c.in_default.is c.in_ok-line.ensures))
+
+pub returns-clause-short : goal.returns-clause-short
+returns-clause-short c = c.loop-line.invariant.short
