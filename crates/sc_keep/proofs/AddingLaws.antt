@@ -15,7 +15,7 @@ use Rattle.sc_steps.proofs.LineLaws.{clause_of_end, clause_in_whole, number_in_f
 use Rattle.sc_steps.proofs.ListLaws.{some_and}
 use Rattle.sc_steps.specs.Splice.{named_by}
 use Rattle.sc_data.specs.Numbering.{numbered}
-use Rattle.sc_rules.specs.Derivation.{Adds, AddsInput, AddsPart, AreTermsTo}
+use Rattle.sc_rules.specs.Derivation.{AddsInput, AreTermsTo}
 use Rattle.sc_keep.specs.Adding.{IsPartLine, AddedPart}
 use Rattle.sc_keep.proofs.CanonicalLaws.{counted, all_at, all_firsts, all_each}
 

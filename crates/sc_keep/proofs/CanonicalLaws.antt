@@ -1,12 +1,12 @@
 -- The terms that take a clause to its canonical form.
-use Rattle.std.proofs.Common.{◌≡◌, ◌≢◌, ◌∙◌, sym, ap, subst, refl, ℕ, zero, suc, ◌+◌, ◌-◌, ◌<◌, ◌≤◌, ◌⊎◌, inl, inr, Bool, true, false, List, [], ◌∷◌, ◌++◌, length, map, get_or, drop, slice_get, nat_eq, nat_lt, if◌then◌else◌, ◌||◌, max, Some, None, Option, arith, length-append}
+use Rattle.std.proofs.Common.{◌≡◌, ◌≢◌, ◌∙◌, sym, ap, subst, refl, ℕ, zero, suc, ◌+◌, ◌<◌, ◌≤◌, ◌⊎◌, inl, inr, Bool, true, false, List, [], ◌∷◌, ◌++◌, length, map, get_or, drop, slice_get, nat_eq, nat_lt, if◌then◌else◌, ◌||◌, max, Some, arith, length-append}
 use Rattle.std.specs.List.{Contains, AllByRecursion, list_any, fold, position_or_len}
 use Rattle.std.proofs.lemmas.Bool.{eqb-true, eqb-false, lt-ltb, le-ltb}
 use Rattle.std.proofs.lemmas.List.Sums.{position_or_len_is}
 use Rattle.sc_data.specs.declared.Term.{Term, Var}
 use Rattle.sc_data.specs.declared.Literal.{Literal}
 use Rattle.sc_data.specs.declared.Clause.{Clause}
-use Rattle.sc_data.specs.Clause.{counting_from, firsts, firsts_after, variables, width, literal_width, instance}
+use Rattle.sc_data.specs.Clause.{counting_from, firsts, firsts_after, variables, width, literal_width}
 use Rattle.sc_data.specs.JointInstance.{canonical, renumbering}
 use Rattle.sc_data.specs.Term.{value_of, largest, joined, term_width, term_variables}
 use Rattle.sc_data.specs.declared.Term.TheVariants.{App}

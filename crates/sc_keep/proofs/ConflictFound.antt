@@ -1,7 +1,6 @@
 -- Two units that conflict, and two that don't.
-use Rattle.std.proofs.Common.{◌≡◌, ◌≢◌, ◌∙◌, sym, ap, subst, refl, ℕ, zero, suc, ◌+◌, ◌<◌, List, [], ◌∷◌, ◌++◌, length, map, get_or, Some, Option, inl, Bool, true, false, not, arith, length-append}
+use Rattle.std.proofs.Common.{◌≡◌, ◌≢◌, ◌∙◌, sym, ap, subst, refl, ℕ, zero, suc, ◌+◌, List, [], ◌∷◌, ◌++◌, length, map, get_or, Some, Option, inl, Bool, true, false, not, arith, length-append}
 use Rattle.std.specs.Prelude.{IsSomeAnd}
-use Rattle.std.specs.List.{All}
 use Rattle.sc_data.specs.declared.Term.{Term, Var}
 use Rattle.sc_data.specs.declared.Literal.{Literal}
 use Rattle.sc_data.specs.declared.Clause.{Clause}
@@ -21,8 +20,8 @@ use Rattle.sc_data.specs.Numbering.{numbered}
 use Rattle.sc_steps.proofs.ListLaws.{some_and}
 use Rattle.sc_steps.proofs.LineLaws.{clause_of_end, number_within}
 use Rattle.sc_unify.specs.Joint.{AreTermsOf}
-use Rattle.sc_rules.specs.Derivation.{Adds, AddsParts, EndsCanonical}
-use Rattle.sc_rules.specs.Inference.{Inference, Resolving, Concludes, parent_clauses}
+use Rattle.sc_rules.specs.Derivation.{Adds, AddsParts}
+use Rattle.sc_rules.specs.Inference.{Resolving}
 use Rattle.sc_rules.specs.Pairing.{ArePairs, HaveOppositeSigns, places_in}
 use Rattle.sc_rules.specs.Conflict.{Conflicts}
 use Rattle.sc_rules.proofs.ProcessLaws.{pairs_one}

@@ -15,7 +15,6 @@ use Rattle.sc_steps.specs.Derivation.{last_clause}
 use Rattle.sc_steps.proofs.ListLaws.{some_and, mapped}
 use Rattle.sc_steps.proofs.LineLaws.{number_at, number_within, map_some, clause_of_end}
 use Rattle.sc_rules.specs.Simplification.{IsRepeated, MergesOnce}
-use Rattle.sc_rules.proofs.NumberLaws.{numbered-suc}
 use Rattle.sc_rules.proofs.StepLaws.{same_some}
 use Rattle.sc_keep.specs.Repeated.{IsFirstRepeated}
 

@@ -1,5 +1,5 @@
 -- Parts of a joint instance, where there is one.
-use Rattle.std.proofs.Common.{◌≡◌, ◌∙◌, sym, ap, subst, refl, ℕ, zero, suc, ◌+◌, ◌<◌, ◌≤◌, ◌⊎◌, inl, inr, List, [], ◌∷◌, ◌++◌, length, map, get_or, max, fold, Option, Some, None, Bool, true, false, arith}
+use Rattle.std.proofs.Common.{◌≡◌, ◌∙◌, sym, ap, subst, refl, ℕ, ◌+◌, ◌<◌, ◌≤◌, List, [], ◌∷◌, length, map, get_or, max, fold, Option, Some, None, Bool, true, false, arith}
 use Rattle.std.specs.Prelude.{MatchOption, ◌↔◌, IfSome, IsSome}
 use Rattle.std.specs.List.{AllByRecursion}
 use Rattle.sc_data.specs.declared.Term.{Term, Var}

@@ -1,6 +1,5 @@
 -- The rival of least number among clauses of which one more is looked at.
-use Rattle.std.proofs.Common.{◌≡◌, ◌≢◌, sym, ap, subst, refl, ℕ, ◌<◌, List, [], ◌∷◌, ◌++◌, Option, Some, None, arith}
-use Rattle.std.specs.List.{Contains}
+use Rattle.std.proofs.Common.{◌≡◌, ◌≢◌, subst, refl, ◌<◌, List, [], ◌∷◌, ◌++◌, Option, Some, None}
 use Rattle.sc_data.specs.declared.Numbered.{Numbered}
 use Rattle.sc_steps.specs.declared.derivation.Derived.{Derived}
 use Rattle.sc_rules.specs.Conflict.{Conflicts}

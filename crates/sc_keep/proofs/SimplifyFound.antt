@@ -1,7 +1,6 @@
 -- Where nothing rewrites and nothing cuts, merging and the canonical form are all of it.
-use Rattle.std.proofs.Common.{◌≡◌, subst, sym, refl, ℕ, zero, suc, ◌+◌, ◌<◌, List, [], length, Some, Bool, false, arith}
+use Rattle.std.proofs.Common.{◌≡◌, subst, sym, refl, ℕ, zero, suc, ◌+◌, ◌<◌, List, [], length, Bool, false, arith}
 use Rattle.std.specs.Prelude.{IsSomeAnd}
-use Rattle.sc_data.specs.declared.Clause.{Clause}
 use Rattle.sc_data.specs.declared.Line.{Line}
 use Rattle.sc_data.specs.declared.Numbered.{Numbered}
 use Rattle.sc_data.specs.Numbering.{numbered}
@@ -9,9 +8,9 @@ use Rattle.sc_reading.specs.declared.settings.Flags.{Flags}
 use Rattle.sc_steps.specs.Derivation.{last_clause}
 use Rattle.sc_steps.proofs.ListLaws.{some_and, mapped}
 use Rattle.sc_steps.proofs.LineLaws.{number_within}
-use Rattle.sc_rules.specs.Order.{With, Exhausts, ExhaustsWithin, ends, limit}
+use Rattle.sc_rules.specs.Order.{With, Exhausts, ends, limit}
 use Rattle.sc_rules.specs.Derivation.{EndsCanonical}
-use Rattle.sc_rules.specs.Rewriting.{RewritesOnce, Rewrites}
+use Rattle.sc_rules.specs.Rewriting.{Rewrites}
 use Rattle.sc_rules.specs.Simplification.{MergesOnce, Simplifies}
 
 none_rewrites : (n : ℕ) (lines : List Line) → Rewrites [] n lines lines

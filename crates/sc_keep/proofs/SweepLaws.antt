@@ -1,7 +1,7 @@
 -- Clauses are picked one after another, and taken out from the end.
-use Rattle.std.proofs.Common.{◌≡◌, ◌∙◌, sym, ap, subst, refl, ℕ, zero, suc, ◌+◌, ◌-◌, ◌<◌, ◌≤◌, Bool, true, false, not, cond, List, [], ◌∷◌, ◌++◌, append_assoc, length, map, take, drop, get_or, arith, nat_eq}
+use Rattle.std.proofs.Common.{◌≡◌, ◌∙◌, sym, ap, subst, refl, ℕ, zero, suc, ◌+◌, ◌-◌, ◌<◌, ◌≤◌, Bool, true, false, not, cond, List, [], ◌∷◌, ◌++◌, append_assoc, length, take, drop, get_or, arith, nat_eq}
 use Rattle.std.proofs.lemmas.List.{map-append}
-use Rattle.std.specs.List.{filter, remove, list_any}
+use Rattle.std.specs.List.{remove, list_any}
 use Rattle.std.proofs.lemmas.List.{take_more, append-nil, length-take-le, take_all, drop_all}
 use Rattle.sc_data.specs.declared.Numbered.{Numbered}
 use Rattle.sc_rules.specs.Order.{IsFilter, taken, passed, none}

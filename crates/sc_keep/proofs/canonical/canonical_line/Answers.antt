@@ -1,5 +1,4 @@
-use Rattle.std.proofs.Common.{◌≡◌, ◌∙◌, sym, ap, subst, refl, List, ℕ}
-use Rattle.sc_data.specs.declared.Term.{Term}
+use Rattle.std.proofs.Common.{◌∙◌, sym, subst, refl}
 use Rattle.sc_data.specs.JointInstance.{canonical}
 use Rattle.sc_rules.specs.Derivation.{AreTermsTo}
 use Rattle.sc_keep.specs.Canonical.{place_terms}

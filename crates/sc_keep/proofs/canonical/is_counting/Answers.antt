@@ -1,4 +1,4 @@
-use Rattle.std.proofs.Common.{◌≡◌, ◌∙◌, sym, ℕ, get_or, refl, arith}
+use Rattle.std.proofs.Common.{◌∙◌, refl, arith}
 use Rattle.sc_keep.proofs.CanonicalLaws.{counts, counted}
 use Rattle.sc_keep.proofs.canonical.is_counting.Goals as goal
 

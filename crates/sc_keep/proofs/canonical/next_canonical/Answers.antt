@@ -1,4 +1,4 @@
-use Rattle.std.proofs.Common.{◌≡◌, ◌∙◌, sym, subst, ap, ℕ, List, true, true≢false}
+use Rattle.std.proofs.Common.{◌≡◌, ◌∙◌, sym, subst, ap, ℕ, List, true≢false}
 use Rattle.sc_data.specs.Clause.{counting_from, variables}
 use Rattle.sc_term.specs.Occurrence.{noted}
 use Rattle.sc_term.proofs.Occurrences.{noted-firsts}

@@ -1,4 +1,4 @@
-use Rattle.std.proofs.Common.{◌≡◌, ◌∙◌, sym, true, true≢false}
+use Rattle.std.proofs.Common.{◌∙◌, sym, true≢false}
 use Rattle.sc_data.specs.declared.Numbered.{Numbered}
 use Rattle.sc_subsume.specs.Subsumption.{Subsumes}
 use Rattle.sc_keep.proofs.LeastLaws.{not_below, fails, takes}

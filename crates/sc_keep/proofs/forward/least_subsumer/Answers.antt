@@ -1,4 +1,4 @@
-use Rattle.std.proofs.Common.{◌≡◌, ◌∙◌, ap, sym, subst, ℕ, List, [], ◌∷◌, ◌++◌, take, append_assoc}
+use Rattle.std.proofs.Common.{sym, subst, List, ◌++◌, take}
 use Rattle.std.proofs.lemmas.List.{append-nil, take_all}
 use Rattle.sc_data.specs.declared.Numbered.{Numbered}
 use Rattle.sc_subsume.specs.Subsumption.{Subsumes}

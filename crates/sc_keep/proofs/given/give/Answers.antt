@@ -1,4 +1,3 @@
-use Rattle.std.proofs.Common.{◌≡◌, ◌++◌, ◌∷◌, []}
 use Rattle.sc_keep.specs.Lists.{book_of}
 use Rattle.sc_keep.proofs.GivenLaws.{gives, never_lost}
 use Rattle.sc_keep.proofs.given.give.Goals as goal

@@ -1,6 +1,4 @@
-use Rattle.std.proofs.Common.{◌≡◌, subst, List, [], ◌++◌, Option, None, append_assoc, arith}
-use Rattle.std.specs.List.{Contains}
-use Rattle.sc_data.specs.declared.Numbered.{Numbered}
+use Rattle.std.proofs.Common.{[], ◌++◌, None, arith}
 use Rattle.sc_keep.specs.Rivals.{IsLeastRival}
 use Rattle.sc_keep.proofs.live.live_rival.Goals as goal
 

@@ -1,5 +1,4 @@
-use Rattle.std.proofs.Common.{◌≡◌, subst, List, [], ◌++◌, Option, None, append_assoc, arith}
-use Rattle.std.specs.List.{Contains}
+use Rattle.std.proofs.Common.{[], ◌++◌, None, arith}
 use Rattle.sc_data.specs.declared.Numbered.{Numbered}
 use Rattle.sc_subsume.specs.Subsumption.{Subsumes}
 use Rattle.sc_keep.specs.Least.{IsLeastNumber}

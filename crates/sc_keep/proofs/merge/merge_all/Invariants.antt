@@ -1,4 +1,4 @@
-use Rattle.std.proofs.Common.{◌<◌, ◌+◌, ◌^◌, ℕ, List, length}
+use Rattle.std.proofs.Common.{◌<◌, ◌+◌, ◌^◌, List, length}
 use Rattle.std.specs.Prelude.{IsSomeAnd}
 use Rattle.sc_data.specs.declared.Line.{Line}
 use Rattle.sc_steps.specs.Derivation.{last_clause}

@@ -1,6 +1,5 @@
-use Rattle.std.proofs.Common.{◌≡◌, ◌∙◌, sym, ap, subst, ℕ, ◌+◌, ◌<◌, List, map, ◌∷◌, [], ◌++◌, arith}
+use Rattle.std.proofs.Common.{◌≡◌, ◌∙◌, ap, ℕ, ◌+◌, List, ◌∷◌, [], ◌++◌, arith}
 use Rattle.sc_data.specs.declared.Clause.{Clause}
-use Rattle.sc_data.specs.Term.{largest}
 use Rattle.sc_data.specs.Clause.{width}
 use Rattle.sc_data.specs.JointInstance.{apart, shift}
 use Rattle.sc_keep.proofs.PartLaws.{renamed_widths}

@@ -1,7 +1,4 @@
-use Rattle.std.proofs.Common.{◌≡◌, subst, List, ◌∷◌, [], Some, None}
-use Rattle.std.specs.Prelude.{MatchOption}
-use Rattle.sc_data.specs.declared.Pair.{Pair}
-use Rattle.sc_data.specs.Substitution.{IsMostGeneralUnifier, Unify}
+use Rattle.std.proofs.Common.{◌∷◌, []}
 use Rattle.sc_unify.specs.Unifiers.{substitution}
 use Rattle.sc_keep.proofs.PartLaws.{no_unifier, told_parts, the_unifier, the_lack}
 use Rattle.sc_keep.proofs.parts.terms_of_pair.Goals as goal

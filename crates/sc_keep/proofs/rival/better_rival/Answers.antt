@@ -1,4 +1,4 @@
-use Rattle.std.proofs.Common.{◌≡◌, ◌∙◌, sym, subst, Option, None, true, true≢false}
+use Rattle.std.proofs.Common.{◌∙◌, sym, subst, Option, true≢false}
 use Rattle.std.specs.Prelude.{MatchOption}
 use Rattle.sc_steps.specs.declared.derivation.Derived.{Derived}
 use Rattle.sc_rules.specs.Conflict.{Conflicts}

@@ -1,4 +1,4 @@
-use Rattle.std.proofs.Common.{◌≡◌, ◌∙◌, sym, ap, subst, ℕ, List, nat_eq, take, false}
+use Rattle.std.proofs.Common.{◌∙◌, sym, ap, nat_eq}
 use Rattle.std.specs.List.{list_any}
 use Rattle.std.proofs.lemmas.List.{take_all}
 use Rattle.sc_keep.proofs.sweep.is_among.Goals as goal

@@ -1,7 +1,3 @@
-use Rattle.std.proofs.Common.{◌≡◌, ◌≢◌, ◌↔◌, ℕ, true}
-use Rattle.std.specs.Prelude.{IfOk}
-use Rattle.std.specs.Bool.{IsTrue}
-use Rattle.sc_subsume.specs.Subsumption.{Subsumes}
 use Rattle.sc_keep.proofs.sweep.is_subsumed.Goals as goal
 
 pub returns : goal.returns

@@ -1,4 +1,4 @@
-use Rattle.std.proofs.Common.{◌≡◌, ◌∙◌, sym, arith, refl}
+use Rattle.std.proofs.Common.{◌∙◌, arith, refl}
 use Rattle.sc_keep.proofs.SweepLaws.{none_left, all_left, one_out, one_in}
 use Rattle.sc_keep.proofs.sweep.leave_out.Goals.{then-is_among, else-is_among}
 use Rattle.sc_keep.proofs.sweep.leave_out.Goals as goal

@@ -1,4 +1,4 @@
-use Rattle.std.proofs.Common.{◌≡◌, ◌∙◌, sym, ap, subst, ℕ, ◌+◌, ◌++◌, List, take, Vec, Global, true, true≢false}
+use Rattle.std.proofs.Common.{◌≡◌, ◌∙◌, sym, ap, subst, ℕ, ◌+◌, ◌++◌, List, take, Vec, Global, true≢false}
 use Rattle.sc_data.specs.declared.Numbered.{Numbered}
 use Rattle.sc_rules.specs.Order.{IsFilter}
 use Rattle.sc_keep.specs.Sweep.{IsOtherSubsumed, numbers}

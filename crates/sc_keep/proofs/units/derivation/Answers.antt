@@ -1,6 +1,6 @@
-use Rattle.std.proofs.Common.{◌≡◌, ◌∙◌, sym, ap, arith}
+use Rattle.std.proofs.Common.{◌∙◌}
 use Rattle.sc_keep.specs.Parts.{unit_pairs}
-use Rattle.sc_keep.proofs.ConflictFound.{the_two, two_long, first_is, second_is, first_fits, second_fits, no_inputs, found_any}
+use Rattle.sc_keep.proofs.ConflictFound.{the_two, first_is, second_is, found_any}
 use Rattle.sc_keep.proofs.units.derivation.Goals as goal
 
 pub returns : goal.returns

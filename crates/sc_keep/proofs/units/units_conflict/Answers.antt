@@ -1,4 +1,4 @@
-use Rattle.std.proofs.Common.{◌≡◌, subst, List, ◌∷◌, [], Option, None}
+use Rattle.std.proofs.Common.{subst, List, ◌∷◌, [], Option}
 use Rattle.std.specs.Prelude.{MatchOption}
 use Rattle.sc_data.specs.declared.Term.{Term}
 use Rattle.sc_keep.specs.Parts.{HasNoParts, HasParts, unit_pairs}
