@@ -1,0 +1,12 @@
+pub mod LeastLaws
+pub mod MergeLaws
+pub mod CanonicalLaws
+pub mod EndLaws
+pub mod SweepLaws
+pub mod PartLaws
+pub mod AddingLaws
+pub mod ConflictFound
+pub mod RivalLaws
+pub mod FateLaws
+pub mod SimplifyFound
+pub mod GivenLaws

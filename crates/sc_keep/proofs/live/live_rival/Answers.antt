@@ -1,0 +1,10 @@
+use Rattle.std.proofs.Common.{[], ◌++◌, None, arith}
+use Rattle.sc_keep.specs.Rivals.{IsLeastRival}
+use Rattle.sc_keep.proofs.live.live_rival.Goals as goal
+
+pub returns : goal.returns
+returns c =
+    let us = c.args.live.usable.now in
+    let ss = c.args.live.sos.now in
+    let start : IsLeastRival c.args.n.now [] None = λ p h. absurd (omega (arith, h.1)) in
+    (c.in_ok-best-3.ensures (us ++ ss) (c.in_ok-best-2.ensures us (c.in_ok-best.ensures [] start)))

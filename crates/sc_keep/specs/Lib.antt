@@ -1,0 +1,9 @@
+pub mod Least
+pub mod Repeated
+pub mod Canonical
+pub mod Sweep
+pub mod Parts
+pub mod Adding
+pub mod Rivals
+pub mod Dropping
+pub mod Lists

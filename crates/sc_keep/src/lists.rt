@@ -1,0 +1,55 @@
+//! The lists of the book, as plain data, and the clause that joins them.
+
+ghost use Rattle.std.specs.Prelude.{◌≡◌, ◌<◌, ◌^◌, OnOk};
+ghost use Rattle.sc_data.specs.Clause as spec;
+ghost use Rattle.sc_reading.specs.Problem.{Stated};
+ghost use Rattle.sc_rules.specs.Book.{next_number};
+ghost use Rattle.sc_rules.specs.Processing.{with_kept};
+ghost use Rattle.sc_keep.specs.Lists.{book_of};
+
+use sc_data::{Line, Numbered};
+use sc_rules::KeptRow;
+use sc_steps::Derived;
+use sc_term::{Mem, copy, weight};
+use sqlite_items::Items;
+use std::alloc::Global;
+
+/// The derived clauses, the lists of live clauses, and the rows of kept ones. There are no demodulators.
+#[derive(Drop)]
+pub struct Lists {
+    pub derived: Items<Derived>,
+    pub usable: Items<Numbered>,
+    pub sos: Items<Numbered>,
+    pub passive: Items<Numbered>,
+    pub kept: Items<KeptRow>,
+}
+
+/// The clause with its derivation, which has the next number, joins the end of sos and the rows of kept clauses. After
+/// want of memory the lists may have it in part.
+pub fn join(
+    alloc: Global,
+    lists: &mut Lists,
+    n: &Numbered,
+    lines: Items<Line>,
+    turn: u32,
+) -> Mem<()>
+    requires { spec.weight n.now.clause < 2 ^ 32 }
+    ensures { OnOk result ((problem : Stated) → n.now.number ≡ next_number problem (book_of lists.old)
+        → book_of lists.new ≡ with_kept problem (book_of lists.old) n.now.clause lines turn) }
+{
+    lists.derived.push(Derived {
+        clause: copy(alloc, &n.clause)?,
+        lines,
+    })?;
+    lists.sos.push(Numbered {
+        number: n.number,
+        clause: copy(alloc, &n.clause)?,
+    })?;
+    lists.kept.push(KeptRow {
+        number: n.number,
+        turn,
+        weight: weight(&n.clause),
+        clause: copy(alloc, &n.clause)?,
+    })?;
+    Ok(())
+}
