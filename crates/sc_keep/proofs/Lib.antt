@@ -10,3 +10,4 @@ pub mod RivalLaws
 pub mod FateLaws
 pub mod SimplifyFound
 pub mod GivenLaws
+pub mod StartLaws

@@ -24,6 +24,7 @@ mod merge;
 mod parts;
 mod rival;
 mod simplify;
+mod start;
 mod sweep;
 mod units;
 
