@@ -11,3 +11,4 @@ pub mod FateLaws
 pub mod SimplifyFound
 pub mod GivenLaws
 pub mod StartLaws
+pub mod EndingLaws

@@ -1,12 +1,20 @@
 //! The start: the input clauses go to their lists, and the first that is empty or conflicts with an earlier one ends it.
 
-ghost use Rattle.std.specs.Prelude.{◌≡◌, ◌↔◌, ◌<◌, ◌^◌, IsTrue, IfOk, Some, length};
+ghost use Rattle.std.specs.Prelude.{◌≡◌, ◌↔◌, ◌++◌, ◌∷◌, [], ◌<◌, ◌^◌, List, All, IsTrue, IfOk, MatchOption, Some, length};
 ghost use Rattle.sc_data.specs.Numbering.{numbered as numbered_element};
+ghost use Rattle.sc_data.specs.declared.Numbered.{Numbered as ANumbered};
+ghost use Rattle.sc_reading.specs.Problem.{Stated};
+ghost use Rattle.sc_rules.specs.Conflict.{Conflicts};
 ghost use Rattle.sc_rules.specs.Order.{IsFilter};
-ghost use Rattle.sc_rules.specs.Start.{numbered_from};
+ghost use Rattle.sc_rules.specs.Start.{numbered_from, EndsStart, IsEarlierRival};
+ghost use Rattle.sc_keep.specs.Rivals.{IsFit};
+ghost use Rattle.sc_keep.specs.Start.{EndsBy, HasInput, IsBelowEnding, IsFirstEnding, IsLeastEarlier};
 
+use crate::rival::{Rival, is_below};
+use crate::units::conflict;
 use sc_data::{Clause, Numbered};
 use sc_reading::Home;
+use sc_steps::Derived;
 use sc_term::{Mem, copy};
 use sqlite_items::Items;
 use std::alloc::Global;
@@ -53,4 +61,145 @@ fn at_home(alloc: Global, all: &[Numbered], homes: &[Home], home: Home) -> Mem<I
         }
     }
     Ok(ps)
+}
+
+/// The empty clause of `n` and `m`, where `m` is earlier, the two conflict, and neither is a demodulator.
+fn earlier_conflict(
+    alloc: Global,
+    homes: &[Home],
+    n: &Numbered,
+    m: &Numbered,
+) -> Mem<Option<Derived>>
+    requires fit_n { IsFit n.now }
+    requires fit_m { IsFit m.now }
+    ensures { IfOk result (λ found. (problem : Stated) → problem.homes ≡ homes.now
+        → MatchOption found (¬ IsEarlierRival problem n.now m.now) (λ made. IsEarlierRival problem n.now m.now × Conflicts n.now m.now made)) }
+{
+    if n.number <= m.number {
+        return Ok(None);
+    }
+    if stands_in(homes, n.number, Home::Demodulators) {
+        return Ok(None);
+    }
+    if stands_in(homes, m.number, Home::Demodulators) {
+        return Ok(None);
+    }
+    let found = conflict(alloc, n, m)?;
+    Ok(found)
+}
+
+/// The earlier rival of least number: the best so far, or `m`.
+fn better_earlier(
+    alloc: Global,
+    homes: &[Home],
+    n: &Numbered,
+    m: &Numbered,
+    best: Option<Rival>,
+) -> Mem<Option<Rival>>
+    requires fit_n { IsFit n.now }
+    requires fit_m { IsFit m.now }
+    ensures { IfOk result (λ now. (problem : Stated) → problem.homes ≡ homes.now → (front : List ANumbered)
+        → IsLeastEarlier problem n.now front best → IsLeastEarlier problem n.now (front ++ m.now ∷ []) now) }
+{
+    if !is_below(m.number, &best) {
+        return Ok(best);
+    }
+    match earlier_conflict(alloc, homes, n, m)? {
+        Some(made) => Ok(Some(Rival {
+            number: m.number,
+            made,
+        })),
+        None => Ok(best),
+    }
+}
+
+/// The earlier rival of least number.
+fn least_earlier(
+    alloc: Global,
+    homes: &[Home],
+    n: &Numbered,
+    all: &[Numbered],
+) -> Mem<Option<Rival>>
+    requires fit { IsFit n.now }
+    requires all_fit { All IsFit all.now }
+    ensures { IfOk result (λ found. (problem : Stated) → problem.homes ≡ homes.now → IsLeastEarlier problem n.now all.now found) }
+{
+    let mut best = None;
+    for m in all {
+        best = better_earlier(alloc, homes, n, m, best)?;
+    }
+    Ok(best)
+}
+
+/// What ends the start: an empty clause, by its number, or one that conflicts with an earlier, with what the two give.
+#[derive(Drop)]
+pub struct Ending {
+    pub number: u32,
+    pub made: Option<Derived>,
+}
+
+/// What the clause ends the start by, where it does.
+fn ending_by(alloc: Global, homes: &[Home], all: &[Numbered], n: &Numbered) -> Mem<Option<Ending>>
+    requires fit { IsFit n.now }
+    requires all_fit { All IsFit all.now }
+    ensures { IfOk result (λ found. (problem : Stated) → HasInput homes.now all.now problem
+        → MatchOption found (¬ EndsStart problem n.now) (λ e. EndsStart problem n.now × (n.now.number ≡ e.number) × EndsBy problem n.now e.made)) }
+{
+    if n.clause.literals.is_empty() {
+        return Ok(Some(Ending {
+            number: n.number,
+            made: None,
+        }));
+    }
+    match least_earlier(alloc, homes, n, all)? {
+        Some(rival) => Ok(Some(Ending {
+            number: n.number,
+            made: Some(rival.made),
+        })),
+        None => Ok(None),
+    }
+}
+
+/// Whether the number is less than that of the ending so far.
+fn is_before(n: u32, best: &Option<Ending>) -> bool
+    ensures { IsTrue result ↔ IsBelowEnding n best.now }
+{
+    match best {
+        Some(ending) => n < ending.number,
+        None => true,
+    }
+}
+
+/// The ending of least number: the best so far, or that by `n`.
+fn better_ending(
+    alloc: Global,
+    homes: &[Home],
+    all: &[Numbered],
+    n: &Numbered,
+    best: Option<Ending>,
+) -> Mem<Option<Ending>>
+    requires fit { IsFit n.now }
+    requires all_fit { All IsFit all.now }
+    ensures { IfOk result (λ now. (problem : Stated) → HasInput homes.now all.now problem → (front : List ANumbered)
+        → IsFirstEnding problem front best → IsFirstEnding problem (front ++ n.now ∷ []) now) }
+{
+    if !is_before(n.number, &best) {
+        return Ok(best);
+    }
+    match ending_by(alloc, homes, all, n)? {
+        Some(found) => Ok(Some(found)),
+        None => Ok(best),
+    }
+}
+
+/// What the first clause, by number, that ends the start ends it by.
+fn first_ending(alloc: Global, homes: &[Home], all: &[Numbered]) -> Mem<Option<Ending>>
+    requires all_fit { All IsFit all.now }
+    ensures { IfOk result (λ found. (problem : Stated) → HasInput homes.now all.now problem → IsFirstEnding problem all.now found) }
+{
+    let mut best = None;
+    for n in all {
+        best = better_ending(alloc, homes, all, n, best)?;
+    }
+    Ok(best)
 }
