@@ -12,3 +12,4 @@ pub mod SimplifyFound
 pub mod GivenLaws
 pub mod StartLaws
 pub mod EndingLaws
+pub mod StartedLaws

@@ -8,3 +8,4 @@ pub mod Rivals
 pub mod Dropping
 pub mod Lists
 pub mod Start
+pub mod Started

@@ -36,5 +36,6 @@ pub use live::{Live, live_rival, live_subsumer};
 pub use merge::merge_all;
 pub use rival::Rival;
 pub use simplify::simplify_lines;
+pub use start::{Started, start_lists};
 pub use sweep::{leave_out, note_subsumed};
 pub use units::conflict;

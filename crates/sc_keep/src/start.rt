@@ -1,15 +1,17 @@
 //! The start: the input clauses go to their lists, and the first that is empty or conflicts with an earlier one ends it.
 
-ghost use Rattle.std.specs.Prelude.{◌≡◌, ◌↔◌, ◌++◌, ◌∷◌, [], ◌<◌, ◌^◌, List, All, IsTrue, IfOk, MatchOption, Some, length};
+ghost use Rattle.std.specs.Prelude.{◌≡◌, ◌↔◌, ◌++◌, ◌∷◌, [], ◌<◌, ◌+◌, ◌^◌, List, All, IsTrue, IfOk, OnOk, MatchOption, Some, None, length};
 ghost use Rattle.sc_data.specs.Numbering.{numbered as numbered_element};
 ghost use Rattle.sc_data.specs.declared.Numbered.{Numbered as ANumbered};
 ghost use Rattle.sc_reading.specs.Problem.{Stated};
 ghost use Rattle.sc_rules.specs.Conflict.{Conflicts};
 ghost use Rattle.sc_rules.specs.Order.{IsFilter};
-ghost use Rattle.sc_rules.specs.Start.{numbered_from, EndsStart, IsEarlierRival};
-ghost use Rattle.sc_keep.specs.Rivals.{IsFit};
+ghost use Rattle.sc_rules.specs.Start.{numbered_from, EndsStart, IsEarlierRival, OpensBook, Starts};
+ghost use Rattle.sc_keep.specs.Rivals.{IsFit, IsFitClause};
 ghost use Rattle.sc_keep.specs.Start.{EndsBy, HasInput, IsBelowEnding, IsFirstEnding, IsLeastEarlier};
+ghost use Rattle.sc_keep.specs.Started.{IsEndedBy, started_book};
 
+use crate::lists::Lists;
 use crate::rival::{Rival, is_below};
 use crate::units::conflict;
 use sc_data::{Clause, Numbered};
@@ -202,4 +204,67 @@ fn first_ending(alloc: Global, homes: &[Home], all: &[Numbered]) -> Mem<Option<E
         best = better_ending(alloc, homes, all, n, best)?;
     }
     Ok(best)
+}
+
+/// The lists at the start, the demodulators, and the number of the empty clause where the run ends at once.
+#[derive(Drop)]
+pub struct Started {
+    pub lists: Lists,
+    pub demods: Items<Numbered>,
+    pub goal: Option<u32>,
+}
+
+/// The input clauses in their lists; nothing is derived.
+fn opened(alloc: Global, homes: &[Home], all: &[Numbered]) -> Mem<Started>
+    ensures opens { IfOk result (λ started. (problem : Stated) → HasInput homes.now all.now problem → OpensBook problem (started_book started)) }
+    ensures no_goal { IfOk result (λ started. started.goal ≡ None) }
+{
+    Ok(Started {
+        lists: Lists {
+            derived: Items::new(alloc),
+            usable: at_home(alloc, all, homes, Home::Usable)?,
+            sos: at_home(alloc, all, homes, Home::Sos)?,
+            passive: at_home(alloc, all, homes, Home::Passive)?,
+            kept: Items::new(alloc),
+        },
+        demods: at_home(alloc, all, homes, Home::Demodulators)?,
+        goal: None,
+    })
+}
+
+/// Ends the start by what was found, where `next` is the number that the next derived clause takes.
+fn end(started: &mut Started, found: Option<Ending>, next: u32) -> Mem<()>
+    ensures { OnOk result (IsEndedBy started.old found next started.new) }
+{
+    match found {
+        Some(ending) => {
+            match ending.made {
+                Some(made) => {
+                    started.lists.derived.push(made)?;
+                    started.goal = Some(next);
+                    Ok(())
+                }
+                None => {
+                    started.goal = Some(ending.number);
+                    Ok(())
+                }
+            }
+        }
+        None => Ok(()),
+    }
+}
+
+/// The start of a run (`Starts`): the input clauses, whose numbers follow their order and which are canonical, go to
+/// the lists of their homes, and the first that is empty or conflicts with an earlier one ends the run.
+pub fn start_lists(alloc: Global, inputs: &[Clause], homes: &[Home]) -> Mem<Started>
+    requires few { length inputs.now + 1 < 2 ^ 32 }
+    requires fit { All IsFitClause inputs.now }
+    ensures { IfOk result (λ started. (problem : Stated) → problem.inputs ≡ inputs.now → problem.homes ≡ homes.now
+        → Starts problem (started_book started) started.goal) }
+{
+    let all = numbered(alloc, inputs)?;
+    let mut started = opened(alloc, homes, all.as_slice())?;
+    let found = first_ending(alloc, homes, all.as_slice())?;
+    end(&mut started, found, inputs.len() as u32 + 1)?;
+    Ok(started)
 }
