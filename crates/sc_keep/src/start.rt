@@ -254,8 +254,10 @@ fn end(started: &mut Started, found: Option<Ending>, next: u32) -> Mem<()>
     }
 }
 
-/// The start of a run (`Starts`): the input clauses, whose numbers follow their order and which are canonical, go to
-/// the lists of their homes, and the first that is empty or conflicts with an earlier one ends the run.
+/// The start of a run (`Starts`): the input clauses, which are canonical and have less than 2^30 variables, go to the
+/// lists of their homes under their numbers, from 1. The first, by number, that is empty, or is a unit that conflicts
+/// with an earlier one, ends the run: the goal is then its number, or the next one with the empty clause of the two,
+/// which is derived. Demodulators conflict with none.
 pub fn start_lists(alloc: Global, inputs: &[Clause], homes: &[Home]) -> Mem<Started>
     requires few { length inputs.now + 1 < 2 ^ 32 }
     requires fit { All IsFitClause inputs.now }
