@@ -10,3 +10,6 @@ pub mod RivalLaws
 pub mod FateLaws
 pub mod SimplifyFound
 pub mod GivenLaws
+pub mod StartLaws
+pub mod EndingLaws
+pub mod StartedLaws

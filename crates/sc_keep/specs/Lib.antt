@@ -7,3 +7,5 @@ pub mod Adding
 pub mod Rivals
 pub mod Dropping
 pub mod Lists
+pub mod Start
+pub mod Started

@@ -18,7 +18,7 @@ pub struct Rival {
 }
 
 /// Whether the number is less than that of the best so far.
-fn is_below(m: u32, best: &Option<Rival>) -> bool
+pub fn is_below(m: u32, best: &Option<Rival>) -> bool
     ensures { IsTrue result ↔ IsBelowRival m best.now }
 {
     match best {
