@@ -1,0 +1,5 @@
+pub mod ExtendingLaws
+pub mod NegativeLaws
+pub mod CandidateLaws
+pub mod ChoosingLaws
+pub mod HyperLaws

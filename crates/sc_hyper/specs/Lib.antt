@@ -1,0 +1,3 @@
+pub mod Negatives
+pub mod Candidates
+pub mod Choosing

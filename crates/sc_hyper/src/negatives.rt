@@ -1,0 +1,34 @@
+//! The negative literals of a clause.
+
+ghost use Rattle.std.specs.Prelude.{◌≡◌, ◌≤◌, length, IfOk};
+ghost use Rattle.sc_hyper.specs.Negatives.{AreNegatives};
+
+use sc_data::{Clause, Literal};
+use sc_term::{Mem, copy_literal};
+use sqlite_items::Items;
+use std::alloc::Global;
+
+/// Negative literals of a clause with their numbers, in order.
+#[derive(Drop)]
+pub struct Negatives {
+    pub numbers: Items<u32>,
+    pub literals: Items<Literal>,
+}
+
+/// The negative literals of the clause.
+pub fn negative_literals(alloc: Global, c: &Clause) -> Mem<Negatives>
+    requires { length c.now.literals ≤ 10000 }
+    ensures are { IfOk result (λ found. AreNegatives c.now found.numbers found.literals) }
+    ensures few { IfOk result (λ found. length found.literals ≤ length c.now.literals) }
+{
+    let all = c.literals.as_slice();
+    let mut numbers = Items::new(alloc);
+    let mut literals = Items::new(alloc);
+    for at in 0..all.len() {
+        if !all[at].positive {
+            numbers.push(at as u32 + 1)?;
+            literals.push(copy_literal(alloc, &all[at])?)?;
+        }
+    }
+    Ok(Negatives { numbers, literals })
+}
