@@ -3,7 +3,7 @@ use Rattle.std.proofs.Common.{◌≡◌, ◌∙◌, sym, ap, subst, refl, ℕ, z
 use Rattle.std.specs.List.{Contains, All, flat_map, list_any}
 use Rattle.std.proofs.lemmas.Bool.{eqb-true, eq-eqb}
 use Rattle.std.proofs.lemmas.List.{append-nil, map-append, get_or_append_left}
-use Rattle.std.proofs.lemmas.List.Elements.{All-append, All-contains}
+use Rattle.std.proofs.lemmas.List.Elements.{All-append, All-contains, Contains-append_cases}
 use Rattle.std.proofs.lemmas.Option.{slice_get_within, get_or_from_slice_get}
 use Rattle.sc_data.specs.declared.Term.{Var}
 use Rattle.sc_data.specs.declared.Literal.{Literal}
@@ -14,7 +14,7 @@ use Rattle.sc_rules.specs.declared.site.HyperSite.{HyperSite}
 use Rattle.sc_rules.specs.declared.site.Pick.{Pick}
 use Rattle.sc_rules.specs.Order.{IsBefore}
 use Rattle.sc_rules.specs.Hyperresolution.{hyper_numbers, picked_numbers}
-use Rattle.sc_rules.proofs.Enumerations.{all_of_one}
+use Rattle.sc_rules.proofs.Enumerations.{all_of_one, in_one}
 use Rattle.sc_rules.proofs.FilterLaws.{in_second}
 use Rattle.sc_rules.proofs.OrderLaws.{at_first, later, first_or_later}
 use Rattle.sc_rules.proofs.StepLaws.{same_some}
@@ -24,7 +24,7 @@ use Rattle.sc_resolve.proofs.LiteralLaws.{contains_at, at_contains}
 use Rattle.sc_hyper.specs.declared.candidates.Candidate.{Candidate}
 use Rattle.sc_hyper.specs.declared.choice.Choice.{Choice}
 use Rattle.sc_hyper.specs.Candidates.{candidate_numbers, DoRise}
-use Rattle.sc_hyper.specs.Choosing.{has, pick_of, pair_with, pairs_of, low_after, IsExtended, IsChosen, IsChoice, Completes, IsWithNext}
+use Rattle.sc_hyper.specs.Choosing.{has, pick_of, pair_with, pairs_of, low_after, IsExtended, IsRefused, IsChosen, IsChoice, Completes, IsWithNext}
 
 -- ---- pairs
 
@@ -191,3 +191,29 @@ has_not n (p ∷ ps) h k = by (nat_eq p.number n) (list_any (has n) ps) (λ e. e
     by true b here there k m = let bad : true ≡ false = k in cc
     by false b here there k (inl e) = let bad : false ≡ true = here e in cc
     by false b here there k (inr m) = there k m
+
+-- ---- a candidate that can't be next
+
+abbrev as_pick : ℕ → Pick
+as_pick n = record { number = n; lit = 0 }
+
+abbrev numbers_in : List Pick → List ℕ
+numbers_in ps = map (λ (p : Pick). p.number) ps
+
+pub no_given_there : (nucleus given : ℕ) (ps : List Pick) (next : Candidate) → nat_eq next.number given ≡ false → (nat_eq nucleus given || list_any (has given) ps) ≡ false
+    → ¬ Contains (nucleus ∷ numbers_in (ps ++ pick_of next ∷ [])) given
+no_given_there nucleus given ps next other none h = by (Contains-append_cases (numbers_in (as_pick nucleus ∷ ps)) (next.number ∷ []) given (subst (λ (ns : List ℕ). Contains (nucleus ∷ ns) given) (map-append (λ (p : Pick). p.number) ps (pick_of next ∷ [])) h))
+  where
+    by : Contains (numbers_in (as_pick nucleus ∷ ps)) given ⊎ Contains (next.number ∷ []) given → ⊥
+    by (inl k) = has_not given (as_pick nucleus ∷ ps) none k
+    by (inr k) = let bad : true ≡ false = sym (eq-eqb next.number given (in_one next.number given k)) ∙ other in cc
+
+pub refused : (nucleus given : ℕ) (candidates : List Candidate) (low : ℕ) (ls : List Literal) (cs : List Candidate) (choice : Choice) → IsChosen candidates low ls cs choice
+    → (l : Literal) (next : Candidate) → slice_get ls (length choice.picks) ≡ Some l → (last : Bool) → (last ≡ true → length choice.picks + 1 ≡ length ls)
+    → IsRefused nucleus given choice l next last → (x : HyperSite) → ¬ Completes nucleus given candidates low ls (cs ++ next ∷ []) x
+refused nucleus given candidates low ls cs choice chosen l next there last whole (inl none) x h = cannot candidates low ls cs choice chosen l next there nucleus given x none h
+refused nucleus given candidates low ls cs choice chosen l next there last whole (inr lacks) x h =
+    let long : length (cs ++ next ∷ []) ≡ length ls = omega (arith, whole lacks.0, as_many candidates low ls cs choice chosen, length-append cs (next ∷ [])) in
+    let site = whole_is nucleus given candidates low ls (cs ++ next ∷ []) long x h in
+    let picks : x.electrons ≡ choice.picks ++ pick_of next ∷ [] = ap (λ (y : HyperSite). y.electrons) site.0 ∙ map-append pick_of cs (next ∷ []) ∙ ap (λ (ps : List Pick). ps ++ pick_of next ∷ []) (sym chosen.picks) in
+    no_given_there nucleus given choice.picks next lacks.1 lacks.2 (subst (λ (ps : List Pick). Contains (nucleus ∷ numbers_in ps) given) picks site.1)

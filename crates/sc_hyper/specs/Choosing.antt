@@ -1,5 +1,6 @@
 -- Choices of electrons for the negative literals of a nucleus.
-use Rattle.std.specs.Prelude.{◌≡◌, ◌≢◌, ◌≤◌, ℕ, ◌+◌, List, [], ◌∷◌, ◌++◌, Some, Contains, All, Bool, nat_eq, map, slice_get, length}
+use Rattle.std.specs.Prelude.{◌≡◌, ◌≢◌, ◌≤◌, ℕ, ◌+◌, List, [], ◌∷◌, ◌++◌, Some, Contains, All, Bool, true, false, nat_eq, ◌||◌, ◌⊎◌, map, slice_get, length}
+use Rattle.std.specs.List.{list_any}
 use Rattle.sc_data.specs.declared.Term.{Var}
 use Rattle.sc_data.specs.declared.Literal.{Literal}
 use Rattle.sc_data.specs.declared.Numbered.{Numbered}
@@ -42,6 +43,12 @@ pub record IsExtended (choice : Choice) (l : Literal) (next : Candidate) (longer
   pub pairs : longer.pairs ≡ choice.pairs ++ pair_with choice.low l next ∷ []
   pub low : longer.low ≡ choice.low + next.wide
   pub unify : Unify longer.pairs
+
+-- the candidate can't be next: the pairs don't unify then, or it is the last and the given clause isn't among them
+abbrev pub IsRefused : ℕ → ℕ → Choice → Literal → Candidate → Bool → Type 0
+IsRefused nucleus given choice l next last =
+    (¬ Unify (choice.pairs ++ pair_with choice.low l next ∷ []))
+    ⊎ ((last ≡ true) × (nat_eq next.number given ≡ false) × ((nat_eq nucleus given || list_any (has given) choice.picks) ≡ false))
 
 -- the choice is of these candidates, where the variables of the first become greater by the number
 pub record IsChosen (candidates : List Candidate) (low : ℕ) (negatives : List Literal) (cs : List Candidate) (choice : Choice) : Type 0 where

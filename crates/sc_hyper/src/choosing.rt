@@ -1,12 +1,13 @@
 //! Choices of electrons, literal by literal.
 
-ghost use Rattle.std.specs.Prelude.{◌≡◌, ◌≤◌, ◌<◌, ◌+◌, ◌*◌, ℕ, List, length, OnOk, All};
+ghost use Rattle.std.specs.Prelude.{◌≡◌, ◌≤◌, ◌<◌, ◌+◌, ◌*◌, ◌^◌, ℕ, List, length, IfOk, OnOk, All, MatchOption};
+ghost use Rattle.sc_data.specs.Clause.{literal_width};
 ghost use Rattle.sc_data.specs.Substitution.{Unify};
 ghost use Rattle.sc_rules.specs.Hyperresolution.{hyper_numbers};
 ghost use Rattle.sc_resolve.specs.Extending.{Extends};
 ghost use Rattle.sc_hyper.specs.declared.candidates.Candidate.{Candidate as ACandidate};
 ghost use Rattle.sc_hyper.specs.Candidates.{IsNarrow, DoRise};
-ghost use Rattle.sc_hyper.specs.Choosing.{IsChosen, Completes};
+ghost use Rattle.sc_hyper.specs.Choosing.{IsChosen, IsExtended, IsRefused, Completes};
 
 use crate::candidates::Candidate;
 use crate::choice::{Choice, copy_picks, extended, has_given};
@@ -43,6 +44,31 @@ fn add_site(
     Ok(())
 }
 
+/// The choice with the candidate for the next literal, or None where the pairs don't unify then, or where this is the
+/// last literal and the given clause isn't among them.
+fn next_choice(
+    alloc: Global,
+    nucleus: u32,
+    given: u32,
+    choice: &Choice,
+    l: &Literal,
+    next: &Candidate,
+    last: bool,
+) -> Mem<Option<Choice>>
+    requires low { choice.now.low < 2 ^ 30 }
+    requires narrow { literal_width next.now.literal ≤ 10000 }
+    requires wide { next.now.wide ≤ 10000 }
+    ensures { IfOk result (λ found. MatchOption found (IsRefused nucleus given choice.now l.now next.now last) (λ longer. IsExtended choice.now l.now next.now longer)) }
+{
+    if last && next.number != given && !has_given(nucleus, given, choice.picks.as_slice()) {
+        return Ok(None);
+    }
+    match extended(alloc, choice, l, next)? {
+        Some(longer) => Ok(Some(longer)),
+        None => Ok(None),
+    }
+}
+
 /// Adds the sites that begin with the choice, while there is room.
 pub fn choose(
     alloc: Global,
@@ -69,11 +95,14 @@ pub fn choose(
             alloc, nucleus, given, negatives, candidates, choice, limit, sites,
         );
     }
+    let last = depth + 1 == negatives.len();
     for at in 0..candidates.len() {
         if sites.len() >= limit {
             return Ok(());
         }
-        match extended(alloc, choice, &negatives[depth], &candidates[at])? {
+        let l = &negatives[depth];
+        let next = &candidates[at];
+        match next_choice(alloc, nucleus, given, choice, l, next, last)? {
             Some(longer) => choose(
                 alloc, nucleus, given, negatives, candidates, &longer, limit, sites,
             )?,

@@ -1,15 +1,15 @@
-use Rattle.std.proofs.Common.{◌≡◌, ◌∙◌, sym, ap, subst, ◌<◌, ◌+◌, ℕ, List, ◌∷◌, [], ◌++◌, length, Some, None, Option, slice_get, refl, arith}
+use Rattle.std.proofs.Common.{◌≡◌, ◌∙◌, sym, ap, subst, ◌<◌, ◌+◌, ◌==◌, ℕ, List, ◌∷◌, [], ◌++◌, length, Some, None, Option, slice_get, refl, arith}
 use Rattle.std.specs.Prelude.{MatchOption}
 use Rattle.std.proofs.lemmas.Option.{MatchOption-at_some, slice_get_read}
-use Rattle.sc_data.specs.Substitution.{Unify}
+use Rattle.std.proofs.lemmas.Bool.{eqb-true}
 use Rattle.sc_rules.specs.declared.site.HyperSite.{HyperSite}
 use Rattle.sc_rules.specs.Hyperresolution.{hyper_numbers}
 use Rattle.sc_resolve.specs.Extending.{Extends}
 use Rattle.sc_resolve.proofs.Extending.{goes_on, stops}
 use Rattle.sc_resolve.proofs.LiteralLaws.{contains_at}
 use Rattle.sc_hyper.specs.declared.choice.Choice.{Choice}
-use Rattle.sc_hyper.specs.Choosing.{pair_with, IsExtended, IsWithNext}
-use Rattle.sc_hyper.proofs.ChoosingLaws.{as_many, chosen_next, cannot, next_rise, all_next, with_next, without_next}
+use Rattle.sc_hyper.specs.Choosing.{IsExtended, IsRefused, IsWithNext}
+use Rattle.sc_hyper.proofs.ChoosingLaws.{as_many, chosen_next, refused, next_rise, all_next, with_next, without_next}
 use Rattle.sc_hyper.proofs.choosing.+choose.Goals as goal
 use Rattle.sc_hyper.proofs.choosing.+choose.Goals.{in-Some+in_ok-choose-in-Some, in-None}
 
@@ -28,6 +28,7 @@ loop-at-preserved t c = λ low cs chosen.
     let ls = c.args.negatives.now in
     let choice = c.args.choice.now in
     let at = c.loop-at.at in
+    let last = (c.len-depth.result + 1) == length ls in
     let l = c.index-negatives-depth.result in
     let next = c.index-candidates-at.result in
     let there = slice_get_read all (length all) at next (λ i. length all) c.loop-at-test.true c.index-candidates-at.is in
@@ -37,14 +38,14 @@ loop-at-preserved t c = λ low cs chosen.
     at c.args.sites.now c.loop-at.sites c.match-branch-2.sites (c.loop-at.invariant low cs chosen)
     (elim c.match-branch-2.branch [
       | in-Some+in_ok-choose-in-Some w ↦
-          let longer = MatchOption-at_some (¬ Unify (choice.pairs ++ pair_with choice.low l next ∷ [])) (λ longer. IsExtended choice l next longer) w.in-Some.longer w.in-Some.is c.in_ok-longer.ensures in
+          let longer = MatchOption-at_some (IsRefused c.args.nucleus c.args.given choice l next last) (λ longer. IsExtended choice l next longer) w.in-Some.longer w.in-Some.is c.in_ok-longer.ensures in
           subst (λ (ss : List HyperSite). Extends hyper_numbers (IsWithNext c.args.nucleus c.args.given all low ls cs at) c.args.limit c.loop-at.sites ss) (sym w.sites-is)
           (with_next c.args.nucleus c.args.given all low ls cs at next there c.args.limit c.loop-at.sites w.choose.new.sites
           (w.in_ok-choose-in-Some.ensures low (cs ++ next ∷ []) (chosen_next all low ls cs choice chosen l next left w.in-Some.longer longer (contains_at all at next there))))
       | in-None w ↦
-          let none = subst (λ (o : Option Choice). MatchOption o (¬ Unify (choice.pairs ++ pair_with choice.low l next ∷ [])) (λ longer. IsExtended choice l next longer)) w.in-None.is c.in_ok-longer.ensures in
+          let none = subst (λ (o : Option Choice). MatchOption o (IsRefused c.args.nucleus c.args.given choice l next last) (λ longer. IsExtended choice l next longer)) w.in-None.is c.in_ok-longer.ensures in
           subst (λ (ss : List HyperSite). Extends hyper_numbers (IsWithNext c.args.nucleus c.args.given all low ls cs at) c.args.limit c.loop-at.sites ss) (sym w.sites-is)
-          (without_next c.args.nucleus c.args.given all low ls cs at next there c.args.limit c.loop-at.sites (λ x. cannot all low ls cs choice chosen l next left c.args.nucleus c.args.given x none))
+          (without_next c.args.nucleus c.args.given all low ls cs at next there c.args.limit c.loop-at.sites (refused c.args.nucleus c.args.given all low ls cs choice chosen l next left last (λ e. omega (arith, eqb-true (c.len-depth.result + 1) (length ls) e, c.len-depth.ensures)) none))
     ])
 
 pub returns : goal.returns
