@@ -1,5 +1,5 @@
 -- Choices that go on, and the sites of whole choices.
-use Rattle.std.proofs.Common.{◌≡◌, ◌∙◌, sym, ap, subst, refl, ℕ, zero, suc, ◌+◌, ◌<◌, ◌≤◌, ◌⊎◌, inl, inr, List, [], ◌∷◌, ◌++◌, append_assoc, length, length-append, map, Some, None, Option, Bool, true, false, nat_eq, ◌||◌, slice_get, get_or, arith}
+use Rattle.std.proofs.Common.{◌≡◌, ◌∙◌, sym, ap, subst, refl, ℕ, zero, suc, ◌+◌, ◌<◌, ◌≤◌, ◌⊎◌, inl, inr, List, [], ◌∷◌, ◌++◌, append_assoc, length, length-append, map, Some, None, Option, Bool, true, false, not, nat_eq, ◌||◌, if◌then◌else◌, slice_get, get_or, arith}
 use Rattle.std.specs.List.{Contains, All, flat_map, list_any}
 use Rattle.std.proofs.lemmas.Bool.{eqb-true, eq-eqb}
 use Rattle.std.proofs.lemmas.List.{append-nil, map-append, get_or_append_left}
@@ -14,8 +14,10 @@ use Rattle.sc_rules.specs.declared.site.HyperSite.{HyperSite}
 use Rattle.sc_rules.specs.declared.site.Pick.{Pick}
 use Rattle.sc_rules.specs.Order.{IsBefore}
 use Rattle.sc_rules.specs.Hyperresolution.{hyper_numbers, picked_numbers}
+use Rattle.sc_rules.specs.Pairing.{HaveOppositeSigns}
+use Rattle.sc_rules.proofs.PairLaws.{opposite_one}
 use Rattle.sc_rules.proofs.Enumerations.{all_of_one, in_one}
-use Rattle.sc_rules.proofs.FilterLaws.{in_second}
+use Rattle.sc_rules.proofs.FilterLaws.{in_first, in_second}
 use Rattle.sc_rules.proofs.OrderLaws.{at_first, later, first_or_later}
 use Rattle.sc_rules.proofs.StepLaws.{same_some}
 use Rattle.sc_resolve.specs.Extending.{Extends, Below}
@@ -24,7 +26,7 @@ use Rattle.sc_resolve.proofs.LiteralLaws.{contains_at, at_contains}
 use Rattle.sc_hyper.specs.declared.candidates.Candidate.{Candidate}
 use Rattle.sc_hyper.specs.declared.choice.Choice.{Choice}
 use Rattle.sc_hyper.specs.Candidates.{candidate_numbers, DoRise}
-use Rattle.sc_hyper.specs.Choosing.{has, pick_of, pair_with, pairs_of, low_after, IsExtended, IsRefused, IsChosen, IsChoice, Completes, IsWithNext}
+use Rattle.sc_hyper.specs.Choosing.{has, pick_of, pair_with, pairs_of, low_after, IsNext, AreOpposed, IsRefused, IsChosen, IsChoice, Completes, IsWithNext}
 
 -- ---- pairs
 
@@ -60,7 +62,7 @@ pub unify_none : (ps : List Pair) → ps ≡ [] → Unify ps
 unify_none ps none = ((λ n. Var n), λ k d less. absurd (omega (arith, ap (λ (qs : List Pair). length qs) none)))
 
 pub chosen_none : (candidates : List Candidate) (low : ℕ) (ls : List Literal) (choice : Choice) → choice.picks ≡ [] → choice.pairs ≡ [] → choice.low ≡ low → IsChosen candidates low ls [] choice
-chosen_none candidates low ls choice picks pairs low_is = record { among = λ k d less. absurd (omega arith); picks = picks; pairs = pairs ∙ sym (no_pairs low ls); low_is = low_is }
+chosen_none candidates low ls choice picks pairs low_is = record { among = λ k d less. absurd (omega arith); picks = picks; pairs = pairs ∙ sym (no_pairs low ls); signs = λ k d less. absurd (omega (arith, ap (λ (qs : List Pair). length qs) pairs)); low_is = low_is }
 
 -- ---- one candidate more
 
@@ -79,12 +81,14 @@ module _ (candidates : List Candidate) (low : ℕ) (ls : List Literal) (cs : Lis
     pairs_so : choice.pairs ++ pair_with choice.low l next ∷ [] ≡ pairs_of low ls (cs ++ next ∷ [])
     pairs_so = (λ i. chosen.pairs i ++ pair_with (chosen.low_is i) l next ∷ []) ∙ sym (pairs_snoc low ls cs l next at_end)
 
-    pub chosen_next : (longer : Choice) → IsExtended choice l next longer → Contains candidates next → IsChosen candidates low ls (cs ++ next ∷ []) longer
+    pub chosen_next : (longer : Choice) → IsNext choice l next longer → Contains candidates next → IsChosen candidates low ls (cs ++ next ∷ []) longer
     chosen_next longer e listed = record {
       among = All-append (Contains candidates) cs (next ∷ []) chosen.among (all_of_one (Contains candidates) next listed);
-      picks = e.picks ∙ ap (λ (ps : List Pick). ps ++ pick_of next ∷ []) chosen.picks ∙ sym (map-append pick_of cs (next ∷ []));
-      pairs = e.pairs ∙ pairs_so;
-      low_is = e.low ∙ ap (λ n. n + next.wide) chosen.low_is ∙ sym (low_snoc low cs next);
+      picks = e.extended.picks ∙ ap (λ (ps : List Pick). ps ++ pick_of next ∷ []) chosen.picks ∙ sym (map-append pick_of cs (next ∷ []));
+      pairs = e.extended.pairs ∙ pairs_so;
+      signs = subst HaveOppositeSigns (sym e.extended.pairs)
+          (All-append (λ (p : Pair). p.left.positive ≡ not p.right.positive) choice.pairs (pair_with choice.low l next ∷ []) chosen.signs (opposite_one (pair_with choice.low l next) e.opposed));
+      low_is = e.extended.low ∙ ap (λ n. n + next.wide) chosen.low_is ∙ sym (low_snoc low cs next);
     }
 
     pub cannot : (nucleus given : ℕ) (x : HyperSite) → ¬ Unify (choice.pairs ++ pair_with choice.low l next ∷ []) → ¬ Completes nucleus given candidates low ls (cs ++ next ∷ []) x
@@ -92,9 +96,17 @@ module _ (candidates : List Candidate) (low : ℕ) (ls : List Literal) (cs : Lis
         let front = pairs_front low ls (cs ++ next ∷ []) more in
         none (subst Unify (sym pairs_so) (unify_front (pairs_of low ls (cs ++ next ∷ [])) front.0 (subst Unify front.1 h.unify)))
 
+    pub not_opposed : (nucleus given : ℕ) (x : HyperSite) → ¬ AreOpposed l next → ¬ Completes nucleus given candidates low ls (cs ++ next ∷ []) x
+    not_opposed nucleus given x none (more, h) =
+        let front = pairs_front low ls (cs ++ next ∷ []) more in
+        let all : pairs_of low ls ((cs ++ next ∷ []) ++ more) ≡ (choice.pairs ++ pair_with choice.low l next ∷ []) ++ front.0 = front.1 ∙ ap (λ (ps : List Pair). ps ++ front.0) (sym pairs_so) in
+        none (All-contains (λ (p : Pair). p.left.positive ≡ not p.right.positive) ((choice.pairs ++ pair_with choice.low l next ∷ []) ++ front.0) (pair_with choice.low l next)
+        (subst HaveOppositeSigns all h.signs)
+        (in_first (pair_with choice.low l next) (choice.pairs ++ pair_with choice.low l next ∷ []) front.0 (in_second (pair_with choice.low l next) choice.pairs (pair_with choice.low l next ∷ []) (at_first (pair_with choice.low l next) []))))
+
 -- ---- order
 
-abbrev numbers_of : List Candidate → List ℕ
+abbrev pub numbers_of : List Candidate → List ℕ
 numbers_of cs = flat_map (λ (p : Pick). p.number ∷ p.lit ∷ []) (map pick_of cs)
 
 first_differ : (cs : List Candidate) (c d : Candidate) (more others : List Candidate) → IsBefore (candidate_numbers c) (candidate_numbers d)
@@ -145,14 +157,14 @@ module _ (nucleus given : ℕ) (candidates : List Candidate) (low : ℕ) (ls : L
   whole_is long x ([], h) = (h.is ∙ ap (λ (full : List Candidate). let s : HyperSite = record { nucleus = nucleus; electrons = map pick_of full } in s) (append-nil cs), h.has_given)
   whole_is long x (c ∷ more, h) = absurd (omega (arith, long, h.many, length-append cs (c ∷ more)))
 
-  pub whole_site : length cs ≡ length ls → All (Contains candidates) cs → Unify (pairs_of low ls cs) → (x : HyperSite) → x ≡ record { nucleus = nucleus; electrons = map pick_of cs }
+  pub whole_site : length cs ≡ length ls → All (Contains candidates) cs → HaveOppositeSigns (pairs_of low ls cs) → Unify (pairs_of low ls cs) → (x : HyperSite) → x ≡ record { nucleus = nucleus; electrons = map pick_of cs }
       → Contains (nucleus ∷ picked_numbers x) given → Site x
-  whole_site long among unify x is has = ([], subst (λ (full : List Candidate). IsChoice nucleus given candidates low ls full x) (sym (append-nil cs)) (record { is = is; many = long; among = among; unify = unify; has_given = has }))
+  whole_site long among signs unify x is has = ([], subst (λ (full : List Candidate). IsChoice nucleus given candidates low ls full x) (sym (append-nil cs)) (record { is = is; many = long; among = among; signs = signs; unify = unify; has_given = has }))
 
-  pub site_added : (limit : ℕ) (xs ys : List HyperSite) (x : HyperSite) → length xs < limit → ys ≡ xs ++ x ∷ [] → length cs ≡ length ls → All (Contains candidates) cs → Unify (pairs_of low ls cs)
+  pub site_added : (limit : ℕ) (xs ys : List HyperSite) (x : HyperSite) → length xs < limit → ys ≡ xs ++ x ∷ [] → length cs ≡ length ls → All (Contains candidates) cs → HaveOppositeSigns (pairs_of low ls cs) → Unify (pairs_of low ls cs)
       → x ≡ record { nucleus = nucleus; electrons = map pick_of cs } → Contains (nucleus ∷ picked_numbers x) given → Extends hyper_numbers Site limit xs ys
-  site_added limit xs ys x room grown long among unify is has =
-      one hyper_numbers limit Site xs ys x room grown (whole_site long among unify x is has) (λ y s. is ∙ sym (whole_is long y s).0)
+  site_added limit xs ys x room grown long among signs unify is has =
+      one hyper_numbers limit Site xs ys x room grown (whole_site long among signs unify x is has) (λ y s. is ∙ sym (whole_is long y s).0)
 
   pub no_given : (limit : ℕ) (xs : List HyperSite) → length cs ≡ length ls → ((x : HyperSite) → x ≡ record { nucleus = nucleus; electrons = map pick_of cs } → ¬ Contains (nucleus ∷ picked_numbers x) given)
       → Extends hyper_numbers Site limit xs xs
@@ -212,8 +224,22 @@ pub refused : (nucleus given : ℕ) (candidates : List Candidate) (low : ℕ) (l
     → (l : Literal) (next : Candidate) → slice_get ls (length choice.picks) ≡ Some l → (last : Bool) → (last ≡ true → length choice.picks + 1 ≡ length ls)
     → IsRefused nucleus given choice l next last → (x : HyperSite) → ¬ Completes nucleus given candidates low ls (cs ++ next ∷ []) x
 refused nucleus given candidates low ls cs choice chosen l next there last whole (inl none) x h = cannot candidates low ls cs choice chosen l next there nucleus given x none h
-refused nucleus given candidates low ls cs choice chosen l next there last whole (inr lacks) x h =
+refused nucleus given candidates low ls cs choice chosen l next there last whole (inr (inl same_signs)) x h = not_opposed candidates low ls cs choice chosen l next there nucleus given x same_signs h
+refused nucleus given candidates low ls cs choice chosen l next there last whole (inr (inr lacks)) x h =
     let long : length (cs ++ next ∷ []) ≡ length ls = omega (arith, whole lacks.0, as_many candidates low ls cs choice chosen, length-append cs (next ∷ [])) in
     let site = whole_is nucleus given candidates low ls (cs ++ next ∷ []) long x h in
     let picks : x.electrons ≡ choice.picks ++ pick_of next ∷ [] = ap (λ (y : HyperSite). y.electrons) site.0 ∙ map-append pick_of cs (next ∷ []) ∙ ap (λ (ps : List Pick). ps ++ pick_of next ∷ []) (sym chosen.picks) in
     no_given_there nucleus given choice.picks next lacks.1 lacks.2 (subst (λ (ps : List Pick). Contains (nucleus ∷ numbers_in ps) given) picks site.1)
+
+-- ---- signs
+
+pub opposed_so : (a b : Bool) → (if a then not b else b) ≡ true → a ≡ not b
+opposed_so true b h = sym h
+opposed_so false true h = refl
+opposed_so false false h = h
+
+pub opposed_not : (a b : Bool) → (if a then not b else b) ≡ false → ¬ (a ≡ not b)
+opposed_not true true h e = let bad : true ≡ false = e in cc
+opposed_not true false h e = let bad : true ≡ false = h in cc
+opposed_not false true h e = let bad : true ≡ false = h in cc
+opposed_not false false h e = let bad : false ≡ true = e in cc

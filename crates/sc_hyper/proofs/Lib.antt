@@ -3,3 +3,4 @@ pub mod NegativeLaws
 pub mod CandidateLaws
 pub mod ChoosingLaws
 pub mod HyperLaws
+pub mod UrLaws

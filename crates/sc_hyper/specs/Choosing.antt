@@ -1,5 +1,5 @@
 -- Choices of electrons for the negative literals of a nucleus.
-use Rattle.std.specs.Prelude.{◌≡◌, ◌≢◌, ◌≤◌, ℕ, ◌+◌, List, [], ◌∷◌, ◌++◌, Some, Contains, All, Bool, true, false, nat_eq, ◌||◌, ◌⊎◌, map, slice_get, length}
+use Rattle.std.specs.Prelude.{◌≡◌, ◌≢◌, ◌≤◌, ℕ, ◌+◌, List, [], ◌∷◌, ◌++◌, Some, Contains, All, Bool, true, false, not, nat_eq, ◌||◌, ◌⊎◌, map, slice_get, length}
 use Rattle.std.specs.List.{list_any}
 use Rattle.sc_data.specs.declared.Term.{Var}
 use Rattle.sc_data.specs.declared.Literal.{Literal}
@@ -9,10 +9,11 @@ use Rattle.sc_data.specs.Clause.{width}
 use Rattle.sc_data.specs.Substitution.{literal_under, Unify}
 use Rattle.sc_rules.specs.declared.site.HyperSite.{HyperSite}
 use Rattle.sc_rules.specs.declared.site.Pick.{Pick}
+use Rattle.sc_rules.specs.Pairing.{HaveOppositeSigns}
 use Rattle.sc_rules.specs.Hyperresolution.{picked_numbers}
 use Rattle.sc_hyper.specs.declared.candidates.Candidate.{Candidate}
 use Rattle.sc_hyper.specs.declared.choice.Choice.{Choice}
-use Rattle.sc_hyper.specs.Negatives.{AreNegatives}
+use Rattle.sc_hyper.specs.Negatives.{ArePicked, IsNegative}
 
 -- the electron with its literal
 abbrev pub pick_of : Candidate → Pick
@@ -44,10 +45,20 @@ pub record IsExtended (choice : Choice) (l : Literal) (next : Candidate) (longer
   pub low : longer.low ≡ choice.low + next.wide
   pub unify : Unify longer.pairs
 
--- the candidate can't be next: the pairs don't unify then, or it is the last and the given clause isn't among them
+-- the literals have opposite signs
+abbrev pub AreOpposed : Literal → Candidate → Type 0
+AreOpposed l c = l.positive ≡ not c.literal.positive
+
+-- the choice is longer by the candidate, has the signs, and still unifies
+pub record IsNext (choice : Choice) (l : Literal) (next : Candidate) (longer : Choice) : Type 0 where
+  pub extended : IsExtended choice l next longer
+  pub opposed : AreOpposed l next
+
+-- the candidate can't be next: the signs are the same, the pairs don't unify then, or it is the last and the given clause isn't among them
 abbrev pub IsRefused : ℕ → ℕ → Choice → Literal → Candidate → Bool → Type 0
 IsRefused nucleus given choice l next last =
     (¬ Unify (choice.pairs ++ pair_with choice.low l next ∷ []))
+    ⊎ (¬ AreOpposed l next)
     ⊎ ((last ≡ true) × (nat_eq next.number given ≡ false) × ((nat_eq nucleus given || list_any (has given) choice.picks) ≡ false))
 
 -- the choice is of these candidates, where the variables of the first become greater by the number
@@ -55,6 +66,7 @@ pub record IsChosen (candidates : List Candidate) (low : ℕ) (negatives : List 
   pub among : All (Contains candidates) cs
   pub picks : choice.picks ≡ map pick_of cs
   pub pairs : choice.pairs ≡ pairs_of low negatives cs
+  pub signs : HaveOppositeSigns choice.pairs
   pub low_is : choice.low ≡ low_after low cs
 
 -- the site is that of the whole choice, which unifies and has the given clause
@@ -62,6 +74,7 @@ pub record IsChoice (nucleus given : ℕ) (candidates : List Candidate) (low : �
   pub is : site ≡ record { nucleus = nucleus; electrons = map pick_of cs }
   pub many : length cs ≡ length negatives
   pub among : All (Contains candidates) cs
+  pub signs : HaveOppositeSigns (pairs_of low negatives cs)
   pub unify : Unify (pairs_of low negatives cs)
   pub has_given : Contains (nucleus ∷ picked_numbers site) given
 
@@ -78,7 +91,7 @@ IsWithNext nucleus given candidates low negatives cs k site =
 pub record IsWithNucleus (given : ℕ) (candidates : List Candidate) (nucleus : Numbered) (site : HyperSite) : Type 0 where
   pub numbers : List ℕ
   pub literals : List Literal
-  pub negative : AreNegatives nucleus.clause numbers literals
+  pub negative : ArePicked IsNegative nucleus.clause numbers literals
   pub some : literals ≢ []
   pub choice : Completes nucleus.number given candidates (width nucleus.clause) literals [] site
 

@@ -1,13 +1,13 @@
 //! Choices of electrons, literal by literal.
 
-ghost use Rattle.std.specs.Prelude.{◌≡◌, ◌≤◌, ◌<◌, ◌+◌, ◌*◌, ◌^◌, ℕ, List, length, IfOk, OnOk, All, MatchOption};
+ghost use Rattle.std.specs.Prelude.{◌≡◌, ◌≤◌, ◌<◌, ◌+◌, ◌*◌, ◌^◌, ℕ, List, length, IfOk, OnOk, All, MatchOption, not, if◌then◌else◌};
 ghost use Rattle.sc_data.specs.Clause.{literal_width};
 ghost use Rattle.sc_data.specs.Substitution.{Unify};
 ghost use Rattle.sc_rules.specs.Hyperresolution.{hyper_numbers};
 ghost use Rattle.sc_resolve.specs.Extending.{Extends};
 ghost use Rattle.sc_hyper.specs.declared.candidates.Candidate.{Candidate as ACandidate};
 ghost use Rattle.sc_hyper.specs.Candidates.{IsNarrow, DoRise};
-ghost use Rattle.sc_hyper.specs.Choosing.{IsChosen, IsExtended, IsRefused, Completes};
+ghost use Rattle.sc_hyper.specs.Choosing.{IsChosen, IsNext, IsRefused, Completes};
 
 use crate::candidates::Candidate;
 use crate::choice::{Choice, copy_picks, extended, has_given};
@@ -44,7 +44,15 @@ fn add_site(
     Ok(())
 }
 
-/// The choice with the candidate for the next literal, or None where the pairs don't unify then, or where this is the
+/// Whether the signs are opposite.
+fn are_opposed(l: &Literal, m: &Literal) -> bool
+    ensures { result ≡ (if l.now.positive then not m.now.positive else m.now.positive) }
+{
+    if l.positive { !m.positive } else { m.positive }
+}
+
+/// The choice with the candidate for the next literal, or None where the signs are the same, where the
+/// pairs don't unify then, or where this is the
 /// last literal and the given clause isn't among them.
 fn next_choice(
     alloc: Global,
@@ -58,8 +66,11 @@ fn next_choice(
     requires low { choice.now.low < 2 ^ 30 }
     requires narrow { literal_width next.now.literal ≤ 10000 }
     requires wide { next.now.wide ≤ 10000 }
-    ensures { IfOk result (λ found. MatchOption found (IsRefused nucleus given choice.now l.now next.now last) (λ longer. IsExtended choice.now l.now next.now longer)) }
+    ensures { IfOk result (λ found. MatchOption found (IsRefused nucleus given choice.now l.now next.now last) (λ longer. IsNext choice.now l.now next.now longer)) }
 {
+    if !are_opposed(l, &next.literal) {
+        return Ok(None);
+    }
     if last && next.number != given && !has_given(nucleus, given, choice.picks.as_slice()) {
         return Ok(None);
     }

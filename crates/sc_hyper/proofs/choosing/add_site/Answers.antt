@@ -3,6 +3,7 @@ use Rattle.std.specs.List.{Contains, list_any}
 use Rattle.sc_data.specs.Substitution.{Unify}
 use Rattle.sc_rules.specs.declared.site.Pick.{Pick}
 use Rattle.sc_rules.specs.declared.site.HyperSite.{HyperSite}
+use Rattle.sc_rules.specs.Pairing.{HaveOppositeSigns}
 use Rattle.sc_rules.specs.Hyperresolution.{hyper_numbers}
 use Rattle.sc_resolve.proofs.Extending.{full}
 use Rattle.sc_hyper.specs.Choosing.{has, pick_of, Completes}
@@ -32,7 +33,7 @@ returns c = λ low cs chosen.
     let picks : c.as_slice.result.now ≡ map pick_of cs = c.as_slice.ensures ∙ chosen.picks in
     let made : c.in_ok-electrons.electrons ≡ map pick_of cs = c.in_ok-electrons.ensures ∙ c.as_slice-2.ensures ∙ chosen.picks in
     site_added c.args.nucleus c.args.given c.args.candidates.now low c.args.negatives.now cs c.args.limit c.args.sites.now c.push.new.self (site_of c.args.nucleus c.in_ok-electrons.electrons) (omega arith)
-    c.in_ok-push.ensures.ok (sym (as_many c.args.candidates.now low c.args.negatives.now cs c.args.choice.now chosen) ∙ c.requires.many) chosen.among (subst Unify chosen.pairs c.requires.unify)
+    c.in_ok-push.ensures.ok (sym (as_many c.args.candidates.now low c.args.negatives.now cs c.args.choice.now chosen) ∙ c.requires.many) chosen.among (subst HaveOppositeSigns chosen.pairs chosen.signs) (subst Unify chosen.pairs c.requires.unify)
     (ap (site_of c.args.nucleus) made)
     (subst (λ (ps : List Pick). Contains (map (λ (p : Pick). p.number) (nucleus_first c.args.nucleus ps)) c.args.given) (picks ∙ sym made)
     (has_so c.args.given (nucleus_first c.args.nucleus c.as_slice.result.now) (sym c.has_given.ensures ∙ c.if-not-has_given.false)))

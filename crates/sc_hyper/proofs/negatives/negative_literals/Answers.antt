@@ -4,9 +4,9 @@ use Rattle.sc_data.specs.declared.Literal.{Literal}
 use Rattle.sc_data.specs.Numbering.{numbered}
 use Rattle.sc_rules.proofs.StepLaws.{same_some}
 use Rattle.sc_resolve.specs.Extending.{Extends, Below}
-use Rattle.sc_hyper.specs.Negatives.{IsNegativeAt}
+use Rattle.sc_hyper.specs.Negatives.{IsPickedAt, IsNegative}
 use Rattle.sc_hyper.proofs.ExtendingLaws.{further}
-use Rattle.sc_hyper.proofs.NegativeLaws.{itself, negatives_rise, taken, left_out, also_there, are_negative}
+use Rattle.sc_hyper.proofs.NegativeLaws.{itself, picked_rise, taken, left_out, also_there, are_picked, not_negative}
 use Rattle.sc_hyper.proofs.negatives.negative_literals.Goals as goal
 use Rattle.sc_hyper.proofs.negatives.negative_literals.Goals.{then-not-all-at+in_ok-push+in_ok-copy_literal+in_ok-push-2, else-not-all-at}
 
@@ -24,14 +24,14 @@ loop-at-preserved c =
           let ns : c.if-not-all-at.numbers ≡ c.loop-at.numbers ++ (at + 1) ∷ [] = w.numbers-is ∙ w.in_ok-push.ensures.ok in
           let ls : c.if-not-all-at.literals ≡ c.loop-at.literals ++ l ∷ [] = w.literals-is ∙ w.in_ok-push-2.ensures.ok ∙ ap (λ (k : Literal). c.loop-at.literals ++ k ∷ []) (w.in_ok-copy_literal.ensures ∙ e) in
           record {
-            are = further itself (IsNegativeAt all) (negatives_rise all) at [] c.loop-at.numbers c.if-not-all-at.numbers c.loop-at.invariant.are
-                (taken all at l there c.loop-at.numbers c.if-not-all-at.numbers (ap (λ (k : Literal). k.positive) c.index-all-at.is ∙ w.if-not-all-at.true) ns);
+            are = further itself (IsPickedAt IsNegative all) (picked_rise IsNegative all) at [] c.loop-at.numbers c.if-not-all-at.numbers c.loop-at.invariant.are
+                (taken IsNegative all at l there c.loop-at.numbers c.if-not-all-at.numbers (ap (λ (k : Literal). k.positive) c.index-all-at.is ∙ w.if-not-all-at.true) ns);
             few = omega (arith, c.loop-at.invariant.few, ap (λ (ks : List Literal). length ks) ls, length-append c.loop-at.literals (l ∷ []));
             there = ap (λ (ks : List Literal). map Some ks) ls ∙ also_there all at l there c.loop-at.numbers c.loop-at.literals c.loop-at.invariant.there ∙ ap (λ (ks : List ℕ). map (numbered all) ks) (sym ns);
           }
       | else-not-all-at w ↦ record {
-        are = subst (λ (ks : List ℕ). Extends itself (Below (IsNegativeAt all) (at + 1)) (length ks + 1) [] ks) (sym w.numbers-is)
-            (further itself (IsNegativeAt all) (negatives_rise all) at [] c.loop-at.numbers c.loop-at.numbers c.loop-at.invariant.are (left_out all at l there c.loop-at.numbers (ap (λ (k : Literal). k.positive) c.index-all-at.is ∙ w.if-not-all-at.false)));
+        are = subst (λ (ks : List ℕ). Extends itself (Below (IsPickedAt IsNegative all) (at + 1)) (length ks + 1) [] ks) (sym w.numbers-is)
+            (further itself (IsPickedAt IsNegative all) (picked_rise IsNegative all) at [] c.loop-at.numbers c.loop-at.numbers c.loop-at.invariant.are (left_out IsNegative all at l there c.loop-at.numbers (not_negative (at + 1) l (ap (λ (k : Literal). k.positive) c.index-all-at.is ∙ w.if-not-all-at.false))));
         few = omega (arith, c.loop-at.invariant.few, ap (λ (ks : List Literal). length ks) w.literals-is);
         there = ap (λ (ks : List Literal). map Some ks) w.literals-is ∙ c.loop-at.invariant.there ∙ ap (λ (ks : List ℕ). map (numbered all) ks) (sym w.numbers-is);
       }
@@ -42,8 +42,8 @@ returns-clause-are c =
     let all = c.as_slice-all.result.now in
     let long : c.loop-at.at ≡ length all = omega (arith, c.loop-at.auto.at-end) in
     record {
-      are = are_negative c.args.c.now c.loop-at.numbers
-          (subst (λ (ls : List Literal). Extends itself (Below (IsNegativeAt ls) (length ls)) (length c.loop-at.numbers + 1) [] c.loop-at.numbers) c.as_slice-all.ensures
-          (subst (λ n. Extends itself (Below (IsNegativeAt all) n) (length c.loop-at.numbers + 1) [] c.loop-at.numbers) long c.loop-at.invariant.are));
+      are = are_picked IsNegative c.args.c.now c.loop-at.numbers
+          (subst (λ (ls : List Literal). Extends itself (Below (IsPickedAt IsNegative ls) (length ls)) (length c.loop-at.numbers + 1) [] c.loop-at.numbers) c.as_slice-all.ensures
+          (subst (λ n. Extends itself (Below (IsPickedAt IsNegative all) n) (length c.loop-at.numbers + 1) [] c.loop-at.numbers) long c.loop-at.invariant.are));
       there = c.loop-at.invariant.there ∙ ap (λ (ls : List Literal). map (numbered ls) c.loop-at.numbers) c.as_slice-all.ensures;
     }
