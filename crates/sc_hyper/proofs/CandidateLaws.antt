@@ -1,5 +1,5 @@
 -- The candidates that the loops find are those of the usable clauses, in order.
-use Rattle.std.proofs.Common.{◌≡◌, ◌∙◌, sym, ap, subst, refl, ℕ, zero, suc, ◌+◌, ◌<◌, ◌≤◌, max, fold, inl, inr, List, [], ◌∷◌, ◌++◌, length, length-append, map, Some, None, Option, Bool, true, false, nat_eq, slice_get, get_or, arith}
+use Rattle.std.proofs.Common.{◌≡◌, ◌∙◌, sym, ap, subst, refl, ℕ, zero, suc, ◌+◌, ◌<◌, ◌≤◌, max, fold, inl, inr, List, [], ◌∷◌, ◌++◌, length, length-append, map, Some, None, Option, true, false, nat_eq, slice_get, get_or, arith}
 use Rattle.std.specs.Prelude.{AllPairs}
 use Rattle.std.specs.List.{All, list_all}
 use Rattle.std.proofs.lemmas.Bool.{eq-eqb}

@@ -1,5 +1,5 @@
 -- Choices that go on, and the sites of whole choices.
-use Rattle.std.proofs.Common.{◌≡◌, ◌∙◌, sym, ap, subst, refl, ℕ, zero, suc, ◌+◌, ◌<◌, ◌≤◌, ◌⊎◌, inl, inr, List, [], ◌∷◌, ◌++◌, append_assoc, length, length-append, map, Some, None, Option, Bool, true, false, not, nat_eq, ◌||◌, if◌then◌else◌, slice_get, get_or, arith}
+use Rattle.std.proofs.Common.{◌≡◌, ◌∙◌, sym, ap, subst, refl, ℕ, ◌+◌, ◌<◌, ◌⊎◌, inl, inr, List, [], ◌∷◌, ◌++◌, append_assoc, length, length-append, map, Some, None, Option, Bool, true, false, not, nat_eq, ◌||◌, if◌then◌else◌, slice_get, get_or, arith}
 use Rattle.std.specs.List.{Contains, All, flat_map, list_any}
 use Rattle.std.proofs.lemmas.Bool.{eqb-true, eq-eqb}
 use Rattle.std.proofs.lemmas.List.{append-nil, map-append, get_or_append_left}
@@ -22,7 +22,7 @@ use Rattle.sc_rules.proofs.OrderLaws.{at_first, later, first_or_later}
 use Rattle.sc_rules.proofs.StepLaws.{same_some}
 use Rattle.sc_resolve.specs.Extending.{Extends, Below}
 use Rattle.sc_resolve.proofs.Extending.{Rising, same, one, nothing}
-use Rattle.sc_resolve.proofs.LiteralLaws.{contains_at, at_contains}
+use Rattle.sc_resolve.proofs.LiteralLaws.{at_contains}
 use Rattle.sc_hyper.specs.declared.candidates.Candidate.{Candidate}
 use Rattle.sc_hyper.specs.declared.choice.Choice.{Choice}
 use Rattle.sc_hyper.specs.Candidates.{candidate_numbers, DoRise}

@@ -1,5 +1,5 @@
 -- The sites that the choices make are those of hyperresolution.
-use Rattle.std.proofs.Common.{◌≡◌, ◌≢◌, ◌∙◌, sym, ap, subst, refl, ℕ, zero, suc, ◌+◌, ◌-◌, ◌<◌, inl, List, [], ◌∷◌, ◌++◌, append_assoc, length, length-append, map, Some, None, Option, true, false, not, slice_get, get_or, arith}
+use Rattle.std.proofs.Common.{◌≡◌, ◌≢◌, ◌∙◌, sym, ap, subst, refl, ℕ, zero, suc, ◌+◌, ◌-◌, ◌<◌, inl, List, [], ◌∷◌, ◌++◌, append_assoc, length, length-append, map, Some, None, Option, true, not, slice_get, get_or, arith}
 use Rattle.std.specs.Prelude.{AllPairs, IsSomeAnd}
 use Rattle.std.specs.List.{Contains, All, AllZip}
 use Rattle.std.specs.Option.{option_map}
@@ -19,9 +19,9 @@ use Rattle.sc_steps.proofs.ListLaws.{some_and}
 use Rattle.sc_rules.specs.declared.site.HyperSite.{HyperSite}
 use Rattle.sc_rules.specs.declared.site.Pick.{Pick}
 use Rattle.sc_rules.specs.Order.{IsBefore}
-use Rattle.sc_rules.specs.Pairing.{Place, literal_at, literal_in, ArePairs, HaveOppositeSigns, places_in, places_from}
+use Rattle.sc_rules.specs.Pairing.{literal_at, literal_in, ArePairs, HaveOppositeSigns, places_in, places_from}
 use Rattle.sc_rules.specs.Inference.{Inference, Resolving}
-use Rattle.sc_rules.specs.Hyperresolution.{IsHyper, IsPositive, AreNamed, AreLiteralsWith, AreHyperSites, hyper_numbers, picked_numbers, picked_literals}
+use Rattle.sc_rules.specs.Hyperresolution.{IsHyper, IsPositive, AreNamed, AreHyperSites, hyper_numbers, picked_numbers, picked_literals}
 use Rattle.sc_rules.proofs.OrderLaws.{in_order_is_one}
 use Rattle.sc_rules.proofs.StepLaws.{same_some}
 use Rattle.sc_resolve.specs.Extending.{Extends, Below}
@@ -31,7 +31,7 @@ use Rattle.sc_resolve.proofs.PartLaws.{numbered_map}
 use Rattle.sc_hyper.specs.declared.candidates.Candidate.{Candidate}
 use Rattle.sc_hyper.specs.Negatives.{AreLiteralsAt, ArePicked, IsNegative}
 use Rattle.sc_hyper.specs.Candidates.{IsCandidate, AreCandidates}
-use Rattle.sc_hyper.specs.Choosing.{pick_of, pair_with, pairs_of, IsChoice, Completes, IsWithNucleus, IsWithUsable}
+use Rattle.sc_hyper.specs.Choosing.{pick_of, pair_with, pairs_of, Completes, IsWithNucleus, IsWithUsable}
 use Rattle.sc_hyper.proofs.CandidateLaws.{candidate_of}
 
 -- ---- the negative literals

@@ -1,14 +1,13 @@
 -- The sites that the choices of units make are those of UR-resolution.
-use Rattle.std.proofs.Common.{◌≡◌, ◌≢◌, ◌∙◌, sym, ap, subst, refl, ℕ, zero, suc, ◌+◌, ◌-◌, ◌<◌, ◌≤◌, ◌⊎◌, inl, inr, List, [], ◌∷◌, ◌++◌, length, length-append, map, Some, None, Option, slice_get, get_or, arith}
-use Rattle.std.specs.Prelude.{AllPairs, IsSomeAnd}
-use Rattle.std.specs.List.{Contains, All, AllZip}
+use Rattle.std.proofs.Common.{◌≡◌, ◌∙◌, sym, ap, subst, refl, ℕ, suc, ◌+◌, ◌-◌, ◌<◌, ◌≤◌, ◌⊎◌, inl, inr, List, [], ◌∷◌, ◌++◌, length, map, Some, slice_get, get_or, arith}
+use Rattle.std.specs.Prelude.{AllPairs}
+use Rattle.std.specs.List.{Contains, All}
 use Rattle.std.specs.Option.{option_map}
 use Rattle.std.proofs.lemmas.List.{length-map}
 use Rattle.std.proofs.lemmas.List.Kept.{AllPairs-cons}
 use Rattle.std.proofs.lemmas.Option.{slice_get_within, get_or_from_slice_get, slice_get-map}
 use Rattle.std.proofs.lemmas.List.Elements.{All-contains}
 use Rattle.sc_data.specs.declared.Literal.{Literal}
-use Rattle.sc_data.specs.declared.Clause.{Clause}
 use Rattle.sc_data.specs.declared.Numbered.{Numbered}
 use Rattle.sc_data.specs.Numbering.{numbered}
 use Rattle.sc_data.specs.Clause.{width}
@@ -31,10 +30,10 @@ use Rattle.sc_resolve.proofs.LiteralLaws.{numbered_next, numbered_place, contain
 use Rattle.sc_hyper.specs.declared.candidates.Candidate.{Candidate}
 use Rattle.sc_hyper.specs.Negatives.{ArePicked, IsOther}
 use Rattle.sc_hyper.specs.Candidates.{IsCandidate, AreCandidates, IsSingle, IsFirst}
-use Rattle.sc_hyper.specs.Choosing.{pick_of, pairs_of, IsChoice, Completes}
+use Rattle.sc_hyper.specs.Choosing.{pick_of, pairs_of, Completes}
 use Rattle.sc_hyper.specs.Ur.{ur_of, IsWithTarget, IsWithTargetAt, IsWithTargets, IsWithUrUsable}
 use Rattle.sc_hyper.proofs.ChoosingLaws.{numbers_of}
-use Rattle.sc_hyper.proofs.HyperLaws.{picked_are_one, literals_at, electrons_of, are_named, all_cons, are_fit, candidates_of, pairs_there, made, clauses, parents_of, parents_so, left_so, IsOf}
+use Rattle.sc_hyper.proofs.HyperLaws.{picked_are_one, literals_at, electrons_of, are_named, all_cons, are_fit, candidates_of, pairs_there, made, clauses, parents_of, parents_so, left_so}
 
 -- ---- first things, mapped
 

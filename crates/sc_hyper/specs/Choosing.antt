@@ -1,5 +1,5 @@
 -- Choices of electrons for the negative literals of a nucleus.
-use Rattle.std.specs.Prelude.{◌≡◌, ◌≢◌, ◌≤◌, ℕ, ◌+◌, List, [], ◌∷◌, ◌++◌, Some, Contains, All, Bool, true, false, not, nat_eq, ◌||◌, ◌⊎◌, map, slice_get, length}
+use Rattle.std.specs.Prelude.{◌≡◌, ◌≢◌, ℕ, ◌+◌, List, [], ◌∷◌, ◌++◌, Some, Contains, All, Bool, true, false, not, nat_eq, ◌||◌, ◌⊎◌, map, slice_get, length}
 use Rattle.std.specs.List.{list_any}
 use Rattle.sc_data.specs.declared.Term.{Var}
 use Rattle.sc_data.specs.declared.Literal.{Literal}

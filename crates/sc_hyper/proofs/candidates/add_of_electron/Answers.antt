@@ -1,4 +1,4 @@
-use Rattle.std.proofs.Common.{◌≡◌, ◌∙◌, sym, ap, ◌+◌, List, ◌∷◌, [], ◌++◌, length, slice_get, arith}
+use Rattle.std.proofs.Common.{◌∙◌, sym, ap, ◌+◌, List, ◌∷◌, [], ◌++◌, length, slice_get, arith}
 use Rattle.std.proofs.lemmas.Option.{slice_get_read}
 use Rattle.sc_data.specs.declared.Literal.{Literal}
 use Rattle.sc_resolve.proofs.KeptLaws.{kept_width}

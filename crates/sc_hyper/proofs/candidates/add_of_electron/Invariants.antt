@@ -1,5 +1,4 @@
 use Rattle.std.proofs.Common.{◌+◌, length}
-use Rattle.sc_data.specs.declared.Numbered.{Numbered}
 use Rattle.sc_resolve.specs.Extending.{Extends, Below}
 use Rattle.sc_hyper.specs.Candidates.{candidate_numbers, IsOfElectron}
 use Rattle.sc_hyper.proofs.candidates.add_of_electron.Given as goal

@@ -1,10 +1,5 @@
-use Rattle.std.proofs.Common.{◌∙◌, sym, inl, inr, subst, Option}
-use Rattle.std.specs.Prelude.{MatchOption}
-use Rattle.std.proofs.lemmas.Option.{MatchOption-at_some}
-use Rattle.sc_data.specs.Substitution.{Unify}
-use Rattle.sc_hyper.specs.declared.choice.Choice.{Choice}
-use Rattle.sc_hyper.specs.Choosing.{pair_with, IsExtended}
-use Rattle.sc_hyper.proofs.ChoosingLaws.{opposed_so, opposed_not}
+use Rattle.std.proofs.Common.{◌∙◌, sym, inl, inr}
+use Rattle.sc_hyper.proofs.ChoosingLaws.{opposed_not}
 use Rattle.sc_hyper.proofs.choosing.next_choice.Goals as goal
 
 pub returns-then-not-are_opposed : goal.returns-then-not-are_opposed

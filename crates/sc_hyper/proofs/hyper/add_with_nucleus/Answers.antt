@@ -1,6 +1,5 @@
-use Rattle.std.proofs.Common.{◌∙◌, sym, ap, subst, List, [], length, arith}
+use Rattle.std.proofs.Common.{ap, subst, List, [], length, arith}
 use Rattle.sc_data.specs.declared.Literal.{Literal}
-use Rattle.sc_data.specs.declared.Pair.{Pair}
 use Rattle.sc_data.specs.Clause.{width}
 use Rattle.sc_rules.specs.declared.site.Pick.{Pick}
 use Rattle.sc_rules.specs.Hyperresolution.{hyper_numbers}

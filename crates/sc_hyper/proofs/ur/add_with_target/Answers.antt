@@ -1,4 +1,4 @@
-use Rattle.std.proofs.Common.{◌∙◌, ◌-◌, sym, ap, subst, List, [], length, map, ◌++◌, arith}
+use Rattle.std.proofs.Common.{◌∙◌, ◌-◌, ap, subst, List, [], length, map, ◌++◌, arith}
 use Rattle.sc_data.specs.declared.Literal.{Literal}
 use Rattle.sc_data.specs.Clause.{width}
 use Rattle.sc_rules.specs.declared.site.Pick.{Pick}

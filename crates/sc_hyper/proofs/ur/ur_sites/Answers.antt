@@ -1,4 +1,4 @@
-use Rattle.std.proofs.Common.{◌∙◌, sym, subst, List, [], length}
+use Rattle.std.proofs.Common.{sym, subst, List, [], length}
 use Rattle.std.specs.List.{All}
 use Rattle.std.proofs.lemmas.Result.{IfOk-weaker}
 use Rattle.sc_data.specs.declared.Numbered.{Numbered}
