@@ -1,0 +1,37 @@
+use Rattle.std.proofs.Common.{[], length, arith}
+use Rattle.std.proofs.lemmas.Option.{slice_get_read}
+use Rattle.std.proofs.lemmas.List.Elements.{All-contains}
+use Rattle.sc_data.specs.declared.Numbered.{Numbered}
+use Rattle.sc_resolve.specs.Kept.{IsKept}
+use Rattle.sc_resolve.proofs.KeptLaws.{kept_length}
+use Rattle.sc_resolve.proofs.LiteralLaws.{contains_at}
+use Rattle.sc_rules.specs.Hyperresolution.{ur_numbers}
+use Rattle.sc_resolve.proofs.Extending.{goes_on, stops}
+use Rattle.sc_hyper.specs.Ur.{IsWithUrUsable}
+use Rattle.sc_hyper.proofs.UrLaws.{ur_usables_rise, with_ur_usable}
+use Rattle.sc_hyper.proofs.ur.ur_sites_with.Goals as goal
+
+pub returns-then-len-limit : goal.returns-then-len-limit
+returns-then-len-limit c =
+    let usable = c.args.usable.now in
+    let all = c.args.units.now in
+    stops ur_numbers c.args.limit (IsWithUrUsable c.args.given all usable) (ur_usables_rise c.args.given all usable c.requires.numbers)
+    c.loop-nucleus.nucleus-index (length usable) [] c.loop-nucleus.sites c.loop-nucleus.invariant (omega arith) (omega arith)
+
+pub loop-nucleus-preserved : goal.loop-nucleus-preserved
+loop-nucleus-preserved c =
+    let usable = c.args.usable.now in
+    let all = c.args.units.now in
+    let at = c.loop-nucleus.nucleus-index in
+    let there = slice_get_read usable (length usable) at c.nucleus-item.result (λ i. length usable) c.loop-nucleus-test.true c.nucleus-item.is in
+    goes_on ur_numbers c.args.limit (IsWithUrUsable c.args.given all usable) (ur_usables_rise c.args.given all usable c.requires.numbers)
+    at [] c.loop-nucleus.sites c.add_with_targets.new.sites c.loop-nucleus.invariant
+    (with_ur_usable c.args.given all c.args.limit usable at c.nucleus-item.result there c.loop-nucleus.sites c.add_with_targets.new.sites c.in_ok-add_with_targets.ensures)
+
+pub add_with_targets-requires-clause-few : goal.add_with_targets-requires-clause-few
+add_with_targets-requires-clause-few c =
+    let usable = c.args.usable.now in
+    let at = c.loop-nucleus.nucleus-index in
+    let p = c.nucleus-item.result in
+    let there = slice_get_read usable (length usable) at p (λ i. length usable) c.loop-nucleus-test.true c.nucleus-item.is in
+    kept_length p.clause (All-contains (λ (q : Numbered). IsKept q.clause) usable p c.requires.kept (contains_at usable at p there))

@@ -1,0 +1,4 @@
+pub mod Negatives
+pub mod Candidates
+pub mod Choosing
+pub mod Ur

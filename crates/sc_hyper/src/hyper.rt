@@ -1,0 +1,101 @@
+//! The sites of hyperresolution.
+
+ghost use Rattle.std.specs.Prelude.{◌≡◌, ◌<◌, ◌≤◌, [], length, IfOk, OnOk, All, AllPairs};
+ghost use Rattle.sc_rules.specs.Hyperresolution.{AreHyperSites, hyper_numbers};
+ghost use Rattle.sc_resolve.specs.Kept.{IsKept};
+ghost use Rattle.sc_resolve.specs.Extending.{Extends, Below};
+ghost use Rattle.sc_hyper.specs.Candidates.{IsNarrow, DoRise};
+ghost use Rattle.sc_hyper.specs.Choosing.{IsWithNucleus, IsWithUsable};
+
+use crate::candidates::{Candidate, candidates};
+use crate::choice::Choice;
+use crate::choosing::choose;
+use crate::negatives::negative_literals;
+use sc_data::Numbered;
+use sc_rules::HyperSite;
+use sc_term::{Mem, width};
+use sqlite_items::Items;
+use std::alloc::Global;
+
+/// Adds the sites with the nucleus, while there is room.
+fn add_with_nucleus(
+    alloc: Global,
+    nucleus: &Numbered,
+    given: u32,
+    candidates: &[Candidate],
+    limit: usize,
+    sites: &mut Items<HyperSite>,
+) -> Mem<()>
+    requires kept { IsKept nucleus.now.clause }
+    requires narrow { All IsNarrow candidates.now }
+    requires rising { DoRise candidates.now }
+    ensures { OnOk result (Extends hyper_numbers (IsWithNucleus given candidates.now nucleus.now) limit sites.old sites.new) }
+{
+    let found = negative_literals(alloc, &nucleus.clause)?;
+    if found.literals.is_empty() {
+        return Ok(());
+    }
+    let choice = Choice {
+        picks: Items::new(alloc),
+        pairs: Items::new(alloc),
+        low: width(&nucleus.clause),
+    };
+    choose(
+        alloc,
+        nucleus.number,
+        given,
+        found.literals.as_slice(),
+        candidates,
+        &choice,
+        limit,
+        sites,
+    )?;
+    Ok(())
+}
+
+/// The first sites of all nuclei, at most as many as the limit.
+fn sites_with(
+    alloc: Global,
+    usable: &[Numbered],
+    given: u32,
+    candidates: &[Candidate],
+    limit: usize,
+) -> Mem<Items<HyperSite>>
+    requires numbers { AllPairs (λ p q. p.number < q.number) usable.now }
+    requires kept { All (λ p. IsKept p.clause) usable.now }
+    requires narrow { All IsNarrow candidates.now }
+    requires rising { DoRise candidates.now }
+    ensures { IfOk result (λ sites. Extends hyper_numbers (Below (IsWithUsable given candidates.now usable.now) (length usable.now)) limit [] sites) }
+{
+    let mut sites = Items::new(alloc);
+    for nucleus in usable {
+        if sites.len() >= limit {
+            return Ok(sites);
+        }
+        add_with_nucleus(alloc, nucleus, given, candidates, limit, &mut sites)?;
+    }
+    Ok(sites)
+}
+
+/// The sites of hyperresolution of the given clause with the usable clauses, in rising order of the numbers of the
+/// nucleus, of the first electron, of its literal, of the second electron, and so on (`AreHyperSites`): the first ones,
+/// at most as many as the limit. The numbers of the usable clauses have to rise.
+pub fn hyper_sites(
+    alloc: Global,
+    given: &Numbered,
+    usable: &Items<Numbered>,
+    limit: u32,
+) -> Mem<Items<HyperSite>>
+    requires rising { AllPairs (λ p q. p.number < q.number) usable.now }
+    requires kept { All (λ p. IsKept p.clause) usable.now }
+    ensures { IfOk result (λ sites. AreHyperSites given.now usable.now limit sites) }
+{
+    let found = candidates(alloc, usable.as_slice())?;
+    sites_with(
+        alloc,
+        usable.as_slice(),
+        given.number,
+        found.as_slice(),
+        limit as usize,
+    )
+}
