@@ -3,6 +3,8 @@ pub mod MergeLaws
 pub mod CanonicalLaws
 pub mod EndLaws
 pub mod SweepLaws
+pub mod OthersLaws
+pub mod KeepLaws
 pub mod PartLaws
 pub mod AddingLaws
 pub mod ConflictFound

@@ -4,8 +4,9 @@
 //! canonical form, each with the lines of the derivation, and `simplify_lines` is both; `dropped` finds whether the
 //! conclusion is a tautology, too heavy, too long or subsumed, by the least live clause that does; `join` adds it to the
 //! lists; `live_rival` finds the least live unit that conflicts with it and makes the empty clause; `note_subsumed` and
-//! `leave_out` find the clauses that it subsumes and delete them. `give` moves a clause of sos to usable. The book that
-//! does all this in turn isn't here yet.
+//! `leave_out` find the clauses that it subsumes and delete them, and `keep` is these three: a clause that has joined the
+//! lists meets its rival or sweeps (`Keeps`). `give` moves a clause of sos to usable. The book that does all this in turn
+//! isn't here yet.
 //!
 //! It stands on the definitions and laws of `sc_rules` (`MergesOnce`, `EndsCanonical`, `Conflicts`, `IsLeast`, `Book`),
 //! on sc_subsume's tests and on sc_unify's joint instances. Callers may rest on this: each call answers exactly what the
@@ -18,6 +19,7 @@ mod canonical;
 mod dropping;
 mod forward;
 mod given;
+mod keeping;
 mod lists;
 mod live;
 mod merge;
@@ -30,6 +32,7 @@ mod units;
 pub use canonical::end_canonical;
 pub use dropping::dropped;
 pub use given::give;
+pub use keeping::keep;
 pub use lists::{Lists, join};
 pub use live::{Live, live_rival, live_subsumer};
 pub use merge::merge_all;
