@@ -17,6 +17,7 @@
 mod adding;
 mod canonical;
 mod dropping;
+mod fate;
 mod forward;
 mod given;
 mod keeping;
@@ -31,6 +32,7 @@ mod units;
 
 pub use canonical::end_canonical;
 pub use dropping::dropped;
+pub use fate::process_lines;
 pub use given::give;
 pub use keeping::keep;
 pub use lists::{Lists, join};
