@@ -1,0 +1,3 @@
+pub mod Spots
+pub mod Subterms
+pub mod Pairs
