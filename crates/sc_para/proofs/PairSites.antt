@@ -80,7 +80,7 @@ few_literals (l ∷ ls) = omega (arith, few_literals ls, sum_by-cons (λ n. n) (
 pub light_literal : (ls : List Literal) (k : ℕ) (l : Literal) → slice_get ls k ≡ Some l → sum (map literal_weight ls) ≤ 10000 → sum (map term_weight l.args) ≤ 10000
 light_literal ls k l there light = omega (arith, one_of_sum literal_weight ls k l there)
 
-whole_one : (c : Clause) → whole (c ∷ []) ≡ c
+pub whole_one : (c : Clause) → whole (c ∷ []) ≡ c
 whole_one c = ap (λ (ls : List Literal). let d : Clause = record { literals = ls } in d) (append-nil c.literals)
 
 -- what is renamed apart weighs the same
