@@ -22,8 +22,11 @@ mod merging;
 mod resolving;
 
 pub use binary::binary_sites;
-pub use canonical::is_kept;
+pub use canonical::{finish, is_kept};
 pub use factor::factor_sites;
+pub use joint::{Both, Part, joint_two, part_of};
+pub use lines::{add_line, add_part};
+pub use literals::literal;
 pub use merging::make_factor;
 pub use resolving::make_binary;
 

@@ -1,0 +1,7 @@
+use Rattle.std.proofs.Common.{◌≢◌, ◌<◌, ℕ, Some, true, slice_get}
+use Rattle.sc_data.specs.declared.Term.{Term}
+use Rattle.sc_data.specs.Refuted.{equation}
+use Rattle.sc_para.proofs.pairs.has_equation.Given as goal
+
+abbrev pub invariant-loop-l : goal.invariant-loop-l
+invariant-loop-l l = (k : ℕ) → k < l.l-index → (left right : Term) → slice_get l.literals k ≢ Some (equation true left right)

@@ -1,0 +1,4 @@
+pub mod Spots
+pub mod Subterms
+pub mod Pairs
+pub mod Conclusion
