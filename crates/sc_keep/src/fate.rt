@@ -43,7 +43,13 @@ fn end_with(alloc: Global, lists: &mut Lists, n: Numbered, lines: Items<Line>) -
 }
 
 /// The fate of a simplified conclusion that isn't empty, where it is dropped.
-fn dropped_from(alloc: Global, flags: Flags, params: Params, lists: &Lists, n: &Numbered) -> Mem<Option<Fate>>
+fn dropped_from(
+    alloc: Global,
+    flags: Flags,
+    params: Params,
+    lists: &Lists,
+    n: &Numbered,
+) -> Mem<Option<Fate>>
     requires { params.max_weight ≤ 1000 }
     ensures { IfOk result (λ fate. IsDropped flags params (lists.now.usable ++ lists.now.sos ++ lists.now.passive) n.now.clause fate) }
 {
