@@ -13,5 +13,6 @@ pub mod ConflictFound
 pub mod RivalLaws
 pub mod FateLaws
 pub mod ReadyLaws
+pub mod StaysReady
 pub mod SimplifyFound
 pub mod GivenLaws
