@@ -1,25 +1,28 @@
 -- Lists that are ready for a conclusion are ready for the next one after it was processed.
-use Rattle.std.proofs.Common.{◌≡◌, ◌∙◌, sym, ap, subst, refl, ℕ, zero, suc, ◌+◌, ◌<◌, ◌≤◌, ◌⊎◌, inl, inr, Bool, true, false, true≢false, not, cond, List, [], ◌∷◌, ◌++◌, length, length-append, append_assoc, map, nat_eq, arith}
+use Rattle.std.proofs.Common.{◌≡◌, ◌∙◌, sym, ap, subst, refl, ℕ, zero, suc, ◌+◌, ◌<◌, ◌≤◌, ◌⊎◌, inl, inr, Bool, true, false, true≢false, not, ◌||◌, cond, List, [], ◌∷◌, ◌++◌, length, length-append, append_assoc, map, nat_eq, arith}
 use Rattle.std.specs.List.{Contains, All, AllByRecursion, IsDistinct, list_any, filter}
 use Rattle.std.proofs.lemmas.List.{map-append}
-use Rattle.std.proofs.lemmas.List.Elements.{All-filter}
+use Rattle.std.proofs.lemmas.List.Elements.{All-filter, All-contains, All-append, Contains-get_or}
+use Rattle.sc_rules.specs.Turn.{with_given}
+use Rattle.sc_rules.proofs.OrderLaws.{first_or_later}
+use Rattle.sc_rules.proofs.FilterLaws.{in_first, in_second}
+use Rattle.sc_keep.proofs.OthersLaws.{flips}
 use Rattle.std.proofs.lemmas.Map.Keys.{IsDistinct-cons, IsDistinct-head, IsDistinct-tail}
 use Rattle.sc_data.specs.declared.Numbered.{Numbered}
 use Rattle.sc_data.specs.declared.Clause.{Clause}
 use Rattle.sc_data.specs.declared.Line.{Line}
-use Rattle.sc_data.specs.Clause.{IsCanonical, weight}
+use Rattle.sc_data.specs.Clause.{IsCanonical}
 use Rattle.sc_reading.specs.Problem.{Stated}
 use Rattle.sc_steps.specs.declared.derivation.Derived.{Derived}
 use Rattle.sc_rules.specs.declared.fate.Processed.{Processed}
 use Rattle.sc_rules.specs.Book.{Book, leaving_out, next_number, with_deleted, with_derived}
 use Rattle.sc_rules.specs.Processing.{with_kept, Keeps, Sweeps, MeetsFate, Processes}
-use Rattle.sc_rules.proofs.DerivationLaws.{compared}
 use Rattle.sc_keep.specs.declared.lists.Lists.{Lists}
 use Rattle.sc_keep.specs.Lists.{AreReady, book_of}
 use Rattle.sc_keep.specs.Rivals.{IsFit}
 use Rattle.sc_keep.specs.Sweep.{HaveDistinctNumbers, numbers}
 use Rattle.sc_keep.proofs.CanonicalForm.{ends_with_canonical}
-use Rattle.sc_keep.proofs.LightLaws.{width_light}
+use Rattle.sc_keep.proofs.LightLaws.{light_fits}
 use Rattle.sc_keep.proofs.ReadyLaws.{all_pushed, distinct_pushed}
 
 -- the same of the book that the lists make
@@ -55,17 +58,6 @@ with_one_more problem book c lines h = record {
 }
 
 -- ---- a clause joins
-
-light_fits : (c : Clause) (number most : ℕ) → IsCanonical c → most ≤ 1000 → ¬ (most < weight c) → IsFit (record { number = number; clause = c })
-light_fits c number most canonical light heavy =
-    let narrow = width_light c canonical in
-    record { canonical = canonical; narrow = elim (compared most (weight c)) [
-      | inl less ↦ absurd (heavy less)
-      | inr k ↦ elim k [
-        | inl e ↦ omega (arith, e, light, narrow)
-        | inr less ↦ omega (arith, less, light, narrow)
-      ]
-    ] }
 
 joined : (problem : Stated) (old : Book) (c : Clause) (lines : List Line) (turn : ℕ) → IsFit (record { number = next_number problem old; clause = c }) → IsReady old (next_number problem old)
     → IsReady (with_kept problem old c lines turn) (next_number problem (with_kept problem old c lines turn))
@@ -119,6 +111,61 @@ deleted book n gone h = record {
   distinct = subst HaveDistinctNumbers (left_both gone book.usable book.sos) (distinct_left gone (book.usable ++ book.sos) h.distinct);
   below = subst (All (λ (p : Numbered). p.number < n)) (left_both gone book.usable book.sos) (all_left (λ p. p.number < n) gone (book.usable ++ book.sos) h.below);
 }
+
+-- ---- a clause is given
+
+differ_both : (m : ℕ) (us ss : List Numbered) → AllByRecursion (λ k. nat_eq m k ≡ false) (numbers (us ++ ss)) → AllByRecursion (λ k. nat_eq m k ≡ false) (numbers us) × AllByRecursion (λ k. nat_eq m k ≡ false) (numbers ss)
+differ_both m [] ss h = (tt, h)
+differ_both m (u ∷ us) ss h = let rest = differ_both m us ss h.1 in ((h.0, rest.0), rest.1)
+
+differ_joined : (m : ℕ) (us ss : List Numbered) → AllByRecursion (λ k. nat_eq m k ≡ false) (numbers us) → AllByRecursion (λ k. nat_eq m k ≡ false) (numbers ss) → AllByRecursion (λ k. nat_eq m k ≡ false) (numbers (us ++ ss))
+differ_joined m [] ss h k = k
+differ_joined m (u ∷ us) ss h k = (h.0, differ_joined m us ss h.1 k)
+
+differs_from : (m : ℕ) (ps : List Numbered) (p : Numbered) → AllByRecursion (λ k. nat_eq m k ≡ false) (numbers ps) → Contains ps p → nat_eq m p.number ≡ false
+differs_from m [] p h there = absurd (omega (arith, there.1))
+differs_from m (q ∷ ps) p h there = elim (first_or_later p q ps there) [
+  | inl e ↦ subst (λ (r : Numbered). nat_eq m r.number ≡ false) e h.0
+  | inr later ↦ differs_from m ps p h.1 later
+]
+
+-- the given clause differs from those that are left
+given_differs : (p : Numbered) (ss : List Numbered) → AllByRecursion (λ k. nat_eq p.number k ≡ false) (numbers (leaving_out (p ∷ []) ss))
+given_differs p [] = tt
+given_differs p (q ∷ ss) = by (nat_eq q.number p.number) refl (given_differs p ss)
+  where
+    by : (b : Bool) → nat_eq q.number p.number ≡ b → AllByRecursion (λ k. nat_eq p.number k ≡ false) (numbers (leaving_out (p ∷ []) ss))
+        → AllByRecursion (λ k. nat_eq p.number k ≡ false) (numbers (cond (not (b || false)) (q ∷ leaving_out (p ∷ []) ss) (leaving_out (p ∷ []) ss)))
+    by true e h = h
+    by false e h = (flips p.number q.number ∙ e, h)
+
+given_distinct : (p : Numbered) (us ss : List Numbered) → Contains ss p → HaveDistinctNumbers (us ++ ss) → HaveDistinctNumbers (us ++ p ∷ leaving_out (p ∷ []) ss)
+given_distinct p [] ss there h = IsDistinct-cons nat_eq p.number (numbers (leaving_out (p ∷ []) ss)) (given_differs p ss) (distinct_left (p ∷ []) ss h)
+given_distinct p (u ∷ us) ss there h =
+    let differ = differ_both u.number us ss (IsDistinct-head nat_eq u.number (numbers (us ++ ss)) h) in
+    IsDistinct-cons nat_eq u.number (numbers (us ++ p ∷ leaving_out (p ∷ []) ss))
+    (differ_joined u.number us (p ∷ leaving_out (p ∷ []) ss) differ.0 (differs_from u.number ss p differ.1 there, differ_left u.number (p ∷ []) ss differ.1))
+    (given_distinct p us ss there (IsDistinct-tail nat_eq u.number (numbers (us ++ ss)) h))
+
+given : (book : Book) (n : ℕ) (p : Numbered) → Contains book.sos p → IsReady book n → IsReady (with_given book p) n
+given book n p there h =
+    let left = leaving_out (p ∷ []) book.sos in
+    let whole : book.usable ++ p ∷ left ≡ (book.usable ++ p ∷ []) ++ left = sym (append_assoc book.usable (p ∷ []) left) in
+    let us_below : All (λ (q : Numbered). q.number < n) book.usable = λ k d less. All-contains (λ (q : Numbered). q.number < n) (book.usable ++ book.sos) _ h.below (in_first _ book.usable book.sos (Contains-get_or book.usable k d less)) in
+    let ss_below : All (λ (q : Numbered). q.number < n) book.sos = λ k d less. All-contains (λ (q : Numbered). q.number < n) (book.usable ++ book.sos) _ h.below (in_second _ book.usable book.sos (Contains-get_or book.sos k d less)) in record {
+      usable = all_pushed IsFit book.usable (book.usable ++ p ∷ []) p refl h.usable (All-contains IsFit book.sos p h.sos there);
+      sos = all_left IsFit (p ∷ []) book.sos h.sos;
+      passive = h.passive;
+      distinct = subst HaveDistinctNumbers whole (given_distinct p book.usable book.sos there h.distinct);
+      below = All-append (λ (q : Numbered). q.number < n) (book.usable ++ p ∷ []) left
+          (all_pushed (λ q. q.number < n) book.usable (book.usable ++ p ∷ []) p refl us_below (All-contains (λ (q : Numbered). q.number < n) book.sos p ss_below there))
+          (all_left (λ q. q.number < n) (p ∷ []) book.sos ss_below);
+    }
+
+pub give_stays_ready : (old new : Lists) (n : ℕ) (p : Numbered) → Contains old.sos p → book_of new ≡ with_given (book_of old) p → AreReady old n → AreReady new n
+give_stays_ready old new n p there is h =
+    let now = subst (λ b. IsReady b n) (sym is) (given (book_of old) n p there (record { usable = h.usable; sos = h.sos; passive = h.passive; distinct = h.distinct; below = h.below })) in
+    record { usable = now.usable; sos = now.sos; passive = now.passive; distinct = now.distinct; below = now.below }
 
 -- ---- every fate
 
