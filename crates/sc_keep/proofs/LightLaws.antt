@@ -1,5 +1,5 @@
 -- A canonical clause is no wider than heavy.
-use Rattle.std.proofs.Common.{ap, ℕ, ◌<◌, ◌≤◌, ◌⊎◌, inl, inr, List, [], ◌∷◌, length, length-append, map, sum, Bool, true, false, nat_eq, if◌then◌else◌, arith}
+use Rattle.std.proofs.Common.{ap, ℕ, ◌<◌, ◌≤◌, inl, inr, List, [], ◌∷◌, length, length-append, map, sum, Bool, true, false, nat_eq, if◌then◌else◌, arith}
 use Rattle.std.specs.List.{AllByRecursion, list_any}
 use Rattle.std.proofs.lemmas.List.Sums.{sum_by-cons}
 use Rattle.sc_data.specs.declared.Term.{Term}
@@ -45,10 +45,13 @@ width_light c h = omega (arith, canonical_width c h, fewer_firsts [] (variables 
 pub light_fits : (c : Clause) (number most : ℕ) → IsCanonical c → most ≤ 1000 → ¬ (most < weight c) → IsFit (record { number = number; clause = c })
 light_fits c number most canonical light heavy =
     let narrow = width_light c canonical in
-    record { canonical = canonical; narrow = elim (compared most (weight c)) [
-      | inl less ↦ absurd (heavy less)
-      | inr k ↦ elim k [
-        | inl e ↦ omega (arith, e, light, narrow)
-        | inr less ↦ omega (arith, less, light, narrow)
-      ]
-    ] }
+    record {
+      canonical = canonical;
+      narrow = elim (compared most (weight c)) [
+        | inl less ↦ absurd (heavy less)
+        | inr k ↦ elim k [
+          | inl e ↦ omega (arith, e, light, narrow)
+          | inr less ↦ omega (arith, less, light, narrow)
+        ]
+      ];
+    }

@@ -1,11 +1,11 @@
 -- A conclusion that isn't dropped joins the lists, and they stay ready.
-use Rattle.std.proofs.Common.{◌≡◌, ◌∙◌, sym, ap, subst, refl, ℕ, zero, suc, ◌<◌, ◌≤◌, inl, inr, Bool, true, false, List, [], ◌∷◌, ◌++◌, nat_eq, append_assoc, Option, None, arith}
+use Rattle.std.proofs.Common.{◌≡◌, ◌∙◌, sym, ap, subst, refl, ℕ, zero, suc, ◌<◌, ◌≤◌, Bool, true, false, List, [], ◌∷◌, ◌++◌, nat_eq, append_assoc, Option, None, arith}
 use Rattle.std.specs.List.{All, AllByRecursion, IsDistinct}
 use Rattle.std.proofs.lemmas.Bool.{eqb-true}
 use Rattle.sc_data.specs.declared.Numbered.{Numbered}
 use Rattle.sc_data.specs.declared.Clause.{Clause}
 use Rattle.sc_data.specs.declared.Line.{Line}
-use Rattle.sc_data.specs.Clause.{IsCanonical, weight}
+use Rattle.sc_data.specs.Clause.{IsCanonical}
 use Rattle.sc_reading.specs.Problem.{Stated}
 use Rattle.sc_reading.specs.declared.settings.Flags.{Flags}
 use Rattle.sc_reading.specs.declared.settings.Params.{Params}

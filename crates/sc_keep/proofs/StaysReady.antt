@@ -1,6 +1,6 @@
--- Lists that are ready for a conclusion are ready for the next one after it was processed.
-use Rattle.std.proofs.Common.{◌≡◌, ◌∙◌, sym, ap, subst, refl, ℕ, zero, suc, ◌+◌, ◌<◌, ◌≤◌, ◌⊎◌, inl, inr, Bool, true, false, true≢false, not, ◌||◌, cond, List, [], ◌∷◌, ◌++◌, length, length-append, append_assoc, map, nat_eq, arith}
-use Rattle.std.specs.List.{Contains, All, AllByRecursion, IsDistinct, list_any, filter}
+-- Lists that are ready for a conclusion are so again after it was processed, and after a clause was given.
+use Rattle.std.proofs.Common.{◌≡◌, ◌∙◌, sym, ap, subst, refl, ℕ, ◌+◌, ◌<◌, ◌≤◌, inl, inr, Bool, true, false, true≢false, not, ◌||◌, cond, List, [], ◌∷◌, ◌++◌, length, length-append, append_assoc, map, nat_eq, arith}
+use Rattle.std.specs.List.{Contains, All, AllByRecursion, list_any}
 use Rattle.std.proofs.lemmas.List.{map-append}
 use Rattle.std.proofs.lemmas.List.Elements.{All-filter, All-contains, All-append, Contains-get_or}
 use Rattle.sc_rules.specs.Turn.{with_given}

@@ -9,7 +9,8 @@
 //!
 //! It stands on the definitions and laws of `sc_rules` (`Processes`, `Keeps`, `Conflicts`, `Book`), on sc_subsume's tests
 //! and on sc_unify's joint instances. Callers may rest on this: each call answers exactly what the definition in its
-//! contract says, and want of memory is its one other answer. The lists have to be ready for a clause (`AreReady`).
+//! contract says, and want of memory is its one other answer. The lists have to be ready for a clause (`AreReady`), and
+//! are so again after `process_lines` and `give` (`proofs/StaysReady`).
 //! Clauses are scanned where they stand, each at most once a scan.
 #![tactic(auto)]
 
