@@ -1,4 +1,4 @@
-//! What a conclusion goes through before it is kept, and how it joins the prover's lists.
+//! What becomes of a conclusion: it is simplified, and dropped or kept in the prover's lists.
 //!
 //! `start_lists` puts the input clauses into their lists and finds the first that ends the run at once. In the order of
 //! processing: `merge_all` removes literals that equal an earlier one and `end_canonical` takes the canonical form, each
@@ -6,15 +6,16 @@
 //! too heavy, too long or subsumed, by the least live clause that does; `join` adds it to the lists; `live_rival` finds
 //! the least live unit that conflicts with it and makes the empty clause; `note_subsumed` and `leave_out` find the
 //! clauses that it subsumes and delete them, and `keep` is these three: a clause that has joined the lists meets its rival
-//! or sweeps (`Keeps`). `process_lines` is all of them (`Processes`). `give` moves a clause of sos to usable. The book
-//! that does all this in turn
-//! isn't here yet.
+//! or sweeps (`Keeps`). `process_lines` is all of them (`Processes`). `give` moves a clause of sos to usable. The book that does
+//! all this in turn isn't here yet.
 //!
 //! It stands on the definitions and laws of `sc_rules` (`Starts`, `MergesOnce`, `EndsCanonical`, `Conflicts`, `IsLeast`,
 //! `Book`), on sc_subsume's tests and on sc_unify's joint instances. Callers may rest on this: each call answers exactly
 //! what the definition in its contract says, and want of memory is its one other answer; `proofs/FateLaws` ties `dropped`
 //! to the fates of a conclusion, and `lists_alone` of `proofs/StartedLaws` says that without demodulators the lists alone
 //! are the book at the start. Clauses are scanned where they stand, each at most once a call, and at the start in pairs.
+//! The lists have to be ready for a clause (`AreReady`), and are so again after `process_lines` and `give`
+//! (`proofs/StaysReady`).
 #![tactic(auto)]
 
 mod adding;
