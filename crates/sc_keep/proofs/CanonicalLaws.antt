@@ -201,7 +201,7 @@ module _ (c : Clause) where
       get_or_from_slice_get terms n (Var (place_or_first order n)) (Var n) (place_got order (width c) n less)
       ∙ ap (λ b. Var (if b then position_or_len (nat_eq n) order else 0)) (lt-ltb (position_or_len (nat_eq n) order) (length order) (found_within (nat_eq n) order there))
 
-  in_order : (n : ℕ) → Contains (variables c) n → list_any (nat_eq n) order ≡ true
+  pub in_order : (n : ℕ) → Contains (variables c) n → list_any (nat_eq n) order ≡ true
   in_order n h = by (any_firsts n [] (variables c) (any_there n (variables c) h))
     where
       by : (list_any (nat_eq n) [] ≡ true) ⊎ (list_any (nat_eq n) order ≡ true) → list_any (nat_eq n) order ≡ true

@@ -2,12 +2,17 @@ pub mod LeastLaws
 pub mod MergeLaws
 pub mod CanonicalLaws
 pub mod EndLaws
+pub mod CanonicalForm
+pub mod LightLaws
 pub mod SweepLaws
+pub mod OthersLaws
+pub mod KeepLaws
 pub mod PartLaws
 pub mod AddingLaws
 pub mod ConflictFound
 pub mod RivalLaws
 pub mod FateLaws
+pub mod ReadyLaws
 pub mod SimplifyFound
 pub mod GivenLaws
 pub mod StartLaws

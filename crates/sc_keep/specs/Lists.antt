@@ -1,7 +1,19 @@
 -- The lists as the book that they make.
-use Rattle.std.specs.Prelude.{[]}
+use Rattle.std.specs.Prelude.{◌<◌, ℕ, [], ◌++◌, All}
+use Rattle.sc_data.specs.declared.Numbered.{Numbered}
 use Rattle.sc_rules.specs.Book.{Book}
 use Rattle.sc_keep.specs.declared.lists.Lists.{Lists}
+use Rattle.sc_keep.specs.Rivals.{IsFit}
+use Rattle.sc_keep.specs.Sweep.{HaveDistinctNumbers}
 
 abbrev pub book_of : Lists → Book
 book_of lists = record { derived = lists.derived; usable = lists.usable; sos = lists.sos; passive = lists.passive; demods = []; kept = lists.kept }
+
+-- the lists are ready for a clause of number n: the live clauses are fit to be compared with it, and those that it may
+-- delete have distinct numbers, all below n
+pub record AreReady (lists : Lists) (n : ℕ) : Type 0 where
+  pub usable : All IsFit lists.usable
+  pub sos : All IsFit lists.sos
+  pub passive : All IsFit lists.passive
+  pub distinct : HaveDistinctNumbers (lists.usable ++ lists.sos)
+  pub below : All (λ (p : Numbered). p.number < n) (lists.usable ++ lists.sos)

@@ -5,7 +5,9 @@
 //! with the lines of the derivation, and `simplify_lines` is both; `dropped` finds whether the conclusion is a tautology,
 //! too heavy, too long or subsumed, by the least live clause that does; `join` adds it to the lists; `live_rival` finds
 //! the least live unit that conflicts with it and makes the empty clause; `note_subsumed` and `leave_out` find the
-//! clauses that it subsumes and delete them. `give` moves a clause of sos to usable. The book that does all this in turn
+//! clauses that it subsumes and delete them, and `keep` is these three: a clause that has joined the lists meets its rival
+//! or sweeps (`Keeps`). `process_lines` is all of them (`Processes`). `give` moves a clause of sos to usable. The book
+//! that does all this in turn
 //! isn't here yet.
 //!
 //! It stands on the definitions and laws of `sc_rules` (`Starts`, `MergesOnce`, `EndsCanonical`, `Conflicts`, `IsLeast`,
@@ -18,8 +20,10 @@
 mod adding;
 mod canonical;
 mod dropping;
+mod fate;
 mod forward;
 mod given;
+mod keeping;
 mod lists;
 mod live;
 mod merge;
@@ -32,7 +36,9 @@ mod units;
 
 pub use canonical::end_canonical;
 pub use dropping::dropped;
+pub use fate::process_lines;
 pub use given::give;
+pub use keeping::keep;
 pub use lists::{Lists, join};
 pub use live::{Live, live_rival, live_subsumer};
 pub use merge::merge_all;

@@ -1,6 +1,6 @@
 //! The lists of the book, as plain data, and the clause that joins them.
 
-ghost use Rattle.std.specs.Prelude.{◌≡◌, ◌<◌, ◌^◌, OnOk};
+ghost use Rattle.std.specs.Prelude.{◌≡◌, ◌∷◌, [], ◌++◌, ◌<◌, ◌^◌, OnOk};
 ghost use Rattle.sc_data.specs.Clause as spec;
 ghost use Rattle.sc_reading.specs.Problem.{Stated};
 ghost use Rattle.sc_rules.specs.Book.{next_number};
@@ -34,7 +34,10 @@ pub fn join(
     turn: u32,
 ) -> Mem<()>
     requires { spec.weight n.now.clause < 2 ^ 32 }
-    ensures { OnOk result ((problem : Stated) → n.now.number ≡ next_number problem (book_of lists.old)
+    ensures usable { OnOk result (lists.new.usable ≡ lists.old.usable) }
+    ensures sos { OnOk result (lists.new.sos ≡ lists.old.sos ++ n.now ∷ []) }
+    ensures passive { OnOk result (lists.new.passive ≡ lists.old.passive) }
+    ensures book { OnOk result ((problem : Stated) → n.now.number ≡ next_number problem (book_of lists.old)
         → book_of lists.new ≡ with_kept problem (book_of lists.old) n.now.clause lines turn) }
 {
     lists.derived.push(Derived {

@@ -2,8 +2,8 @@ use Rattle.std.proofs.Common.{◌≡◌, ◌∙◌, ◌++◌, ◌∷◌, [], ari
 use Rattle.sc_data.specs.Clause.{weight}
 use Rattle.sc_keep.proofs.lists.join.Goals as goal
 
-pub returns : goal.returns
-returns c problem e =
+pub returns-clause-book : goal.returns-clause-book
+returns-clause-book c problem e =
     let lists = c.args.lists.now in
     let small = c.requires in
     let told = c.weight.ensures in
@@ -16,3 +16,8 @@ returns c problem e =
       demods = [];
       kept = (c.in_ok-push-3.ensures.ok ∙ (λ j. lists.kept ++ record { number = e j; turn = c.args.turn; weight = w j; clause = c.in_ok-copy-3.ensures j } ∷ [])) i;
     }
+
+pub returns-clause-sos : goal.returns-clause-sos
+returns-clause-sos c =
+    let lists = c.args.lists.now in
+    c.in_ok-push-2.ensures.ok ∙ (λ j. lists.sos ++ record { number = c.args.n.now.number; clause = c.in_ok-copy-2.ensures j } ∷ [])

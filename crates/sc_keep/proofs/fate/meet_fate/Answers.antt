@@ -1,0 +1,30 @@
+use Rattle.std.proofs.Common.{◌∙◌, ◌++◌, sym, true≢false}
+use Rattle.sc_keep.specs.Lists.{book_of}
+use Rattle.sc_keep.specs.Rivals.{IsFit}
+use Rattle.sc_keep.proofs.ReadyLaws.{kept_fits, all_pushed, distinct_pushed, goes_on}
+use Rattle.sc_keep.proofs.fate.meet_fate.Goals as goal
+
+pub keep-requires-clause-fit : goal.keep-requires-clause-fit
+keep-requires-clause-fit c =
+    let lists = c.args.lists.now in
+    kept_fits c.args.flags c.args.params (lists.usable ++ lists.sos ++ lists.passive) c.args.n.clause c.in_ok-fate.field-0 c.in-None.is c.in_ok-fate.ensures
+    c.args.n.number c.requires.light c.requires.canonical
+
+pub keep-requires-clause-sos : goal.keep-requires-clause-sos
+keep-requires-clause-sos c =
+    let lists = c.args.lists.now in
+    all_pushed IsFit lists.sos c.join.new.lists.sos c.args.n c.in_ok-join-in-None.ensures.sos c.requires.ready.sos
+    (kept_fits c.args.flags c.args.params (lists.usable ++ lists.sos ++ lists.passive) c.args.n.clause c.in_ok-fate.field-0 c.in-None.is c.in_ok-fate.ensures
+    c.args.n.number c.requires.light c.requires.canonical)
+
+pub keep-requires-clause-distinct : goal.keep-requires-clause-distinct
+keep-requires-clause-distinct c =
+    let lists = c.args.lists.now in
+    let told = c.in_ok-join-in-None.ensures in
+    distinct_pushed lists.usable lists.sos c.join.new.lists.usable c.join.new.lists.sos c.args.n told.usable told.sos c.requires.ready.distinct c.requires.ready.below
+
+pub returns : goal.returns
+returns c problem number same_flags same_params no_demod =
+    goes_on problem (book_of c.args.lists.now) (book_of c.join.new.lists) (book_of c.keep.new.lists) c.args.n c.args.lines c.args.turn c.in_ok-out-in-None.out c.args.flags c.args.params
+    c.in_ok-fate.field-0 number same_flags same_params no_demod (λ e. true≢false (sym (c.is_empty.ensures.1 e) ∙ c.if-is_empty.false))
+    c.in-None.is c.in_ok-fate.ensures (c.in_ok-join-in-None.ensures.book problem number) (c.in_ok-out-in-None.ensures problem)
