@@ -1,6 +1,6 @@
 -- The canonical form of a clause is canonical.
-use Rattle.std.proofs.Common.{◌≡◌, ◌≢◌, ◌∙◌, sym, ap, subst, refl, ℕ, zero, suc, ◌+◌, ◌<◌, Bool, true, false, List, [], ◌∷◌, length, map, get_or, nat_eq, if◌then◌else◌, not, ◌||◌, inl, inr, Option, Some, ◌++◌, length-append, arith}
-use Rattle.std.specs.List.{Contains, AllByRecursion, list_any, position_or_len}
+use Rattle.std.proofs.Common.{◌≡◌, ◌∙◌, sym, ap, subst, refl, ℕ, zero, suc, ◌+◌, ◌<◌, Bool, true, false, List, [], ◌∷◌, length, map, get_or, nat_eq, if◌then◌else◌, not, ◌||◌, inl, inr, Option, Some, length-append, arith}
+use Rattle.std.specs.List.{AllByRecursion, list_any, position_or_len}
 use Rattle.std.proofs.lemmas.Bool.{eqb-true, eqb-false}
 use Rattle.std.proofs.lemmas.List.{length-map, get_or-map}
 use Rattle.sc_data.specs.declared.Term.{Var}
@@ -8,7 +8,6 @@ use Rattle.sc_data.specs.declared.Clause.{Clause}
 use Rattle.sc_data.specs.Clause.{IsCanonical, counting_from, firsts, firsts_after, instance, variables, width}
 use Rattle.sc_data.specs.JointInstance.{canonical, renumbering}
 use Rattle.sc_data.proofs.SubstitutionLaws.{clause_laws}
-use Rattle.std.specs.Prelude.{IsSomeAnd}
 use Rattle.sc_data.specs.declared.Term.{Term}
 use Rattle.sc_data.specs.declared.Line.{Line}
 use Rattle.sc_data.specs.declared.Step.TheVariants.{Instance}
@@ -19,7 +18,7 @@ use Rattle.sc_steps.proofs.ListLaws.{some_and, mapped}
 use Rattle.sc_steps.proofs.LineLaws.{clause_of_end, number_within}
 use Rattle.sc_rules.specs.Order.{Where}
 use Rattle.sc_rules.specs.Derivation.{Adds, AreTermsTo, EndsCanonical}
-use Rattle.sc_keep.proofs.CanonicalLaws.{counts, all_each, all_firsts, in_order}
+use Rattle.sc_keep.proofs.CanonicalLaws.{counts, all_each, in_order}
 
 -- ---- numbers that are renamed, and can be named back
 

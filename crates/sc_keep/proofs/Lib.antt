@@ -18,3 +18,4 @@ pub mod GivenLaws
 pub mod StartLaws
 pub mod EndingLaws
 pub mod StartedLaws
+pub mod BookLaws

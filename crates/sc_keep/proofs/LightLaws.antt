@@ -1,5 +1,5 @@
 -- A canonical clause is no wider than heavy.
-use Rattle.std.proofs.Common.{◌≡◌, ap, ℕ, ◌≤◌, List, [], ◌∷◌, length, length-append, map, sum, Bool, true, false, nat_eq, if◌then◌else◌, arith}
+use Rattle.std.proofs.Common.{ap, ℕ, ◌≤◌, List, [], ◌∷◌, length, length-append, map, sum, Bool, true, false, nat_eq, if◌then◌else◌, arith}
 use Rattle.std.specs.List.{AllByRecursion, list_any}
 use Rattle.std.proofs.lemmas.List.Sums.{sum_by-cons}
 use Rattle.sc_data.specs.declared.Term.{Term}

@@ -6,9 +6,8 @@
 //! too heavy, too long or subsumed, by the least live clause that does; `join` adds it to the lists; `live_rival` finds
 //! the least live unit that conflicts with it and makes the empty clause; `note_subsumed` and `leave_out` find the
 //! clauses that it subsumes and delete them, and `keep` is these three: a clause that has joined the lists meets its rival
-//! or sweeps (`Keeps`). `process_lines` is all of them (`Processes`). `give` moves a clause of sos to usable. The book
-//! that does all this in turn
-//! isn't here yet.
+//! or sweeps (`Keeps`). `process_lines` is all of them (`Processes`). `give` moves a clause of sos to usable. `Book` keeps
+//! the lists for a problem that needs no equality, and `IsState` says what it keeps; so far it is made, and started.
 //!
 //! It stands on the definitions and laws of `sc_rules` (`Starts`, `MergesOnce`, `EndsCanonical`, `Conflicts`, `IsLeast`,
 //! `Book`), on sc_subsume's tests and on sc_unify's joint instances. Callers may rest on this: each call answers exactly
@@ -18,7 +17,9 @@
 #![tactic(auto)]
 
 mod adding;
+mod book;
 mod canonical;
+mod copies;
 mod dropping;
 mod fate;
 mod forward;
@@ -34,6 +35,7 @@ mod start;
 mod sweep;
 mod units;
 
+pub use book::Book;
 pub use canonical::end_canonical;
 pub use dropping::dropped;
 pub use fate::process_lines;

@@ -1,4 +1,4 @@
-use Rattle.std.proofs.Common.{◌≡◌, ◌∙◌, sym, ap, subst, refl, List, [], ◌<◌, length, false}
+use Rattle.std.proofs.Common.{◌∙◌, sym, ap, subst, refl, List, [], ◌<◌, length, false}
 use Rattle.sc_data.specs.declared.Line.{Line}
 use Rattle.sc_reading.specs.declared.settings.Flags.{Flags}
 use Rattle.sc_steps.specs.Derivation.{last_clause}
