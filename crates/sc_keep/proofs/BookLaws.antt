@@ -13,7 +13,7 @@ use Rattle.sc_rules.specs.Start.{Starts}
 use Rattle.sc_rules.specs.Run.{started}
 use Rattle.sc_rules.proofs.DerivedRun.{run_derived}
 use Rattle.sc_keep.specs.Rivals.{IsFitClause}
-use Rattle.sc_keep.proofs.LightLaws.{width_light}
+use Rattle.sc_keep.proofs.LightLaws.{light_fits}
 
 -- ---- copies
 
@@ -29,9 +29,9 @@ one_copied {A} xs now mid i x at so_far more =
 pub fits : (symbols : List Symbol) (cs : List Clause) → AllByRecursion (IsInput symbols) cs → All IsFitClause cs
 fits symbols [] h = All-nil IsFitClause
 fits symbols (c ∷ cs) h =
-    let narrow = width_light c h.0.canonical in
     let light = h.0.light in
-    All-cons IsFitClause c cs (h.0.canonical, omega (arith, narrow, light)) (fits symbols cs h.1)
+    let fit = light_fits c 0 1000 h.0.canonical (omega arith) (λ more. omega (arith, more, light)) in
+    All-cons IsFitClause c cs (fit.canonical, fit.narrow) (fits symbols cs h.1)
 
 pub starts_derived : (problem : Stated) (book : Book) (goal : Option ℕ) → IsProblem problem → Starts problem book goal → IsDerived problem book
 starts_derived problem book goal such h = run_derived problem [] (started book goal) such (record { book = book; goal = goal; starts = h; goes = refl })

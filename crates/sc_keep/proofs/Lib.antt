@@ -13,6 +13,7 @@ pub mod ConflictFound
 pub mod RivalLaws
 pub mod FateLaws
 pub mod ReadyLaws
+pub mod StaysReady
 pub mod SimplifyFound
 pub mod GivenLaws
 pub mod StartLaws

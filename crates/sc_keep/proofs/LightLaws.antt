@@ -1,5 +1,5 @@
 -- A canonical clause is no wider than heavy.
-use Rattle.std.proofs.Common.{ap, ℕ, ◌≤◌, List, [], ◌∷◌, length, length-append, map, sum, Bool, true, false, nat_eq, if◌then◌else◌, arith}
+use Rattle.std.proofs.Common.{ap, ℕ, ◌<◌, ◌≤◌, inl, inr, List, [], ◌∷◌, length, length-append, map, sum, Bool, true, false, nat_eq, if◌then◌else◌, arith}
 use Rattle.std.specs.List.{AllByRecursion, list_any}
 use Rattle.std.proofs.lemmas.List.Sums.{sum_by-cons}
 use Rattle.sc_data.specs.declared.Term.{Term}
@@ -11,6 +11,8 @@ use Rattle.sc_data.proofs.TermLaws.{term_ind, fold-Var, weight-App}
 use Rattle.sc_data.proofs.TermSteps.{variables-Var, variables-App}
 use Rattle.sc_data.proofs.SubstitutionLaws.{all_of, literal_variables}
 use Rattle.sc_interp.proofs.Width.{canonical_width}
+use Rattle.sc_rules.proofs.DerivationLaws.{compared}
+use Rattle.sc_keep.specs.Rivals.{IsFit}
 
 short_row : {X : Type 0} (f : X → List ℕ) (w : X → ℕ) (xs : List X) → AllByRecursion (λ x. length (f x) ≤ w x) xs → length (joined (map f xs)) ≤ sum (map w xs)
 short_row f w [] h = omega arith
@@ -36,5 +38,20 @@ fewer_firsts seen (n ∷ ns) = by (list_any (nat_eq n) seen) (fewer_firsts seen 
     by true h k = omega arith
     by false h k = omega arith
 
-pub width_light : (c : Clause) → IsCanonical c → width c ≤ weight c
+width_light : (c : Clause) → IsCanonical c → width c ≤ weight c
 width_light c h = omega (arith, canonical_width c h, fewer_firsts [] (variables c), short_clause c)
+
+-- so it is fit where it isn't too heavy
+pub light_fits : (c : Clause) (number most : ℕ) → IsCanonical c → most ≤ 1000 → ¬ (most < weight c) → IsFit (record { number = number; clause = c })
+light_fits c number most canonical light heavy =
+    let narrow = width_light c canonical in
+    record {
+      canonical = canonical;
+      narrow = elim (compared most (weight c)) [
+        | inl less ↦ absurd (heavy less)
+        | inr k ↦ elim k [
+          | inl e ↦ omega (arith, e, light, narrow)
+          | inr less ↦ omega (arith, less, light, narrow)
+        ]
+      ];
+    }

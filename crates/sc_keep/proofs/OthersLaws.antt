@@ -69,7 +69,7 @@ rises others up i j d less within =
     let below = up i j d.number less (omega (arith, within, length-map others f)) in
     inl (omega (arith, low, high, below))
 
-flips : (m n : ℕ) → nat_eq m n ≡ nat_eq n m
+pub flips : (m n : ℕ) → nat_eq m n ≡ nat_eq n m
 flips m n = by (nat_eq m n) (nat_eq n m) refl refl
   where
     by : (a b : Bool) → nat_eq m n ≡ a → nat_eq n m ≡ b → nat_eq m n ≡ nat_eq n m

@@ -1,11 +1,11 @@
 -- A conclusion that isn't dropped joins the lists, and they stay ready.
-use Rattle.std.proofs.Common.{◌≡◌, ◌∙◌, sym, ap, subst, refl, ℕ, zero, suc, ◌<◌, ◌≤◌, inl, inr, Bool, true, false, List, [], ◌∷◌, ◌++◌, nat_eq, append_assoc, Option, None, arith}
+use Rattle.std.proofs.Common.{◌≡◌, ◌∙◌, sym, ap, subst, refl, ℕ, zero, suc, ◌<◌, ◌≤◌, Bool, true, false, List, [], ◌∷◌, ◌++◌, nat_eq, append_assoc, Option, None, arith}
 use Rattle.std.specs.List.{All, AllByRecursion, IsDistinct}
 use Rattle.std.proofs.lemmas.Bool.{eqb-true}
 use Rattle.sc_data.specs.declared.Numbered.{Numbered}
 use Rattle.sc_data.specs.declared.Clause.{Clause}
 use Rattle.sc_data.specs.declared.Line.{Line}
-use Rattle.sc_data.specs.Clause.{IsCanonical, weight}
+use Rattle.sc_data.specs.Clause.{IsCanonical}
 use Rattle.sc_reading.specs.Problem.{Stated}
 use Rattle.sc_reading.specs.declared.settings.Flags.{Flags}
 use Rattle.sc_reading.specs.declared.settings.Params.{Params}
@@ -13,31 +13,18 @@ use Rattle.sc_rules.specs.declared.fate.Fate.{Fate}
 use Rattle.sc_rules.specs.declared.fate.Processed.{Processed}
 use Rattle.sc_rules.specs.Book.{Book, live, next_number}
 use Rattle.sc_rules.specs.Processing.{with_kept, Keeps, MeetsFate}
-use Rattle.sc_rules.proofs.DerivationLaws.{compared}
 use Rattle.sc_keep.specs.Dropping.{IsDropped}
 use Rattle.sc_keep.specs.Rivals.{IsFit}
 use Rattle.sc_keep.specs.Sweep.{HaveDistinctNumbers, numbers}
 use Rattle.sc_keep.proofs.FateLaws.{kept_meets}
-use Rattle.sc_keep.proofs.LightLaws.{width_light}
+use Rattle.sc_keep.proofs.LightLaws.{light_fits}
 
 module _ (flags : Flags) (params : Params) (ps : List Numbered) (c : Clause) (found : Option Fate) (none : found ≡ None) (h : IsDropped flags params ps c found) where
   pub not_dropped : IsDropped flags params ps c None
   not_dropped = subst (IsDropped flags params ps c) none h
 
   pub kept_fits : (number : ℕ) → params.max_weight ≤ 1000 → IsCanonical c → IsFit (record { number = number; clause = c })
-  kept_fits number light canonical =
-      let heavy = not_dropped.1 in
-      let narrow = width_light c canonical in
-      record {
-        canonical = canonical;
-        narrow = elim (compared params.max_weight (weight c)) [
-          | inl less ↦ absurd (heavy less)
-          | inr k ↦ elim k [
-            | inl e ↦ omega (arith, e, light, narrow)
-            | inr less ↦ omega (arith, less, light, narrow)
-          ]
-        ];
-      }
+  kept_fits number light canonical = light_fits c number params.max_weight canonical light not_dropped.1
 
 -- ---- one more at the end
 

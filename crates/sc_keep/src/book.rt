@@ -1,19 +1,41 @@
 //! The book: the clauses that the prover keeps.
 
-ghost use Rattle.std.specs.Prelude.{◌≡◌, true, false, IfOk, OnOk, OnErr};
+ghost use Rattle.std.specs.Prelude.{◌≡◌, ◌<◌, ◌≤◌, ◌+◌, [], true, false, IfOk, OnOk, OnErr, IsSomeAnd, Contains, Some, length};
+ghost use Rattle.sc_data.specs.Numbering.{numbered};
+ghost use Rattle.sc_data.specs.Proof.{IsProof};
+ghost use Rattle.sc_data.specs.declared.Numbered.{Numbered as ANumbered};
+ghost use Rattle.sc_steps.specs.Derivation.{all_clauses};
+ghost use Rattle.sc_rules.specs.Book.{numbered_clauses};
+ghost use Rattle.sc_rules.specs.Turn.{with_given};
 ghost use Rattle.sc_rules.specs.Start.{Starts};
 ghost use Rattle.sc_keep.specs.State.{NeedsNoEquality, empty_book};
 
 use crate::copies::{copy_clauses, copy_symbols};
+use crate::given::give;
 use crate::lists::Lists;
 use crate::start::start_lists;
-use sc_data::Clause;
+use sc_data::{Clause, Line};
 use sc_problem::Problem;
 use sc_reading::{Flags, Home, Params};
+use sc_steps::{Derived, splice};
 use sc_term::{Mem, Symbol};
 use sqlite_items::Items;
 use std::alloc::Global;
 use std::marker::Model;
+
+/// The clause of that number: the derived clauses have the numbers after those of the input clauses.
+fn clause_at<'a>(inputs: &'a [Clause], derived: &'a [Derived], n: u32) -> &'a Clause
+    requires there { 0 < n }
+    requires within { n ≤ length inputs.now + length derived.now }
+    ensures { numbered (all_clauses inputs.now derived.now) n ≡ Some result.now }
+{
+    let at = n as usize - 1;
+    if at < inputs.len() {
+        &inputs[at]
+    } else {
+        &derived[at - inputs.len()].clause
+    }
+}
 
 /// A problem that needs no equality (`NeedsNoEquality`) and the clauses that the prover keeps for it. Contracts see the
 /// problem, the definition's book and whether it is whole (`State`); `IsState` says what each keeps. After a call that
@@ -99,5 +121,47 @@ impl Book {
                 Err(error)
             }
         }
+    }
+
+    /// The clause of that number, which has to be in sos, goes to the end of usable (`with_given`).
+    pub fn give(&mut self, n: u32) -> Mem<()>
+        requires { (p : ANumbered) × Contains self.old.book.sos p × (p.number ≡ n) }
+        ensures given { OnOk result ((p : ANumbered) × Contains self.old.book.sos p × (p.number ≡ n) × (self.new.book ≡ with_given self.old.book p)) }
+        ensures problem { self.new.problem ≡ self.old.problem }
+        ensures whole { OnOk result (self.new.whole ≡ self.old.whole) }
+        ensures halfway { OnErr result (self.new.whole ≡ false) }
+    {
+        match give(&mut self.lists, n) {
+            Ok(()) => Ok(()),
+            Err(error) => {
+                self.whole = false;
+                Err(error)
+            }
+        }
+    }
+}
+
+impl Book {
+    /// The clause of that number, which has to be that of an input clause or of a derived one, whose numbers follow.
+    pub fn clause(&self, n: u32) -> &Clause
+        requires there { 0 < n }
+        requires within { n ≤ length self.now.problem.inputs + length self.now.book.derived }
+        ensures { numbered (numbered_clauses self.now.problem self.now.book) n ≡ Some result.now }
+    {
+        clause_at(self.inputs.as_slice(), self.lists.derived.as_slice(), n)
+    }
+
+    /// The lines of the clauses that clause number `goal` needs: where it is empty, a proof of the input clauses
+    /// (`IsProof`). The book has to be whole. The answer is `OutOfMemory` too where there would be 4,294,967,295 lines or
+    /// more.
+    pub fn proof(&self, goal: u32) -> Mem<Items<Line>>
+        requires whole { self.now.whole ≡ true }
+        requires there { 0 < goal }
+        requires within { goal ≤ length self.now.problem.inputs + length self.now.book.derived }
+        ensures { IfOk result (λ lines. IsSomeAnd (numbered (numbered_clauses self.now.problem self.now.book) goal) (λ c. c.literals ≡ [])
+            → IsProof self.now.problem.inputs lines) }
+    {
+        let lines = splice(self.alloc, &self.inputs, &self.lists.derived, goal)?;
+        Ok(lines)
     }
 }

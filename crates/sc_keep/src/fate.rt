@@ -1,6 +1,6 @@
 //! Every fate of a conclusion.
 
-ghost use Rattle.std.specs.Prelude.{◌≡◌, ◌++◌, ◌<◌, ◌≤◌, ◌+◌, ◌^◌, All, IfOk, OnOk, IsSomeAnd, Some, false, length};
+ghost use Rattle.std.specs.Prelude.{◌≡◌, ◌++◌, ◌<◌, ◌≤◌, ◌+◌, ◌^◌, IfOk, IsSomeAnd, Some, false, length};
 ghost use Rattle.sc_reading.specs.Problem.{Stated};
 ghost use Rattle.sc_steps.specs.Derivation.{last_clause};
 ghost use Rattle.sc_rules.specs.Book.{next_number, with_derived};

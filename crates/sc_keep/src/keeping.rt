@@ -1,8 +1,6 @@
 //! What a kept clause does: it meets its rival, or sweeps the clauses that it subsumes.
 
-ghost use Rattle.std.specs.Prelude.{◌≡◌, ◌++◌, ◌<◌, ◌+◌, ◌^◌, List, All, IfOk, IsSorted, map, false};
-ghost use Rattle.std.specs.Ordering.{nat_cmp};
-ghost use Rattle.std.specs.List.Sorted.{IsPermutation};
+ghost use Rattle.std.specs.Prelude.{◌≡◌, ◌++◌, ◌<◌, ◌+◌, ◌^◌, List, All, IfOk, false};
 ghost use Rattle.sc_data.specs.declared.Numbered.{Numbered as ANumbered};
 ghost use Rattle.sc_reading.specs.Problem.{Stated};
 ghost use Rattle.sc_subsume.specs.Subsumption.{Subsumes};
