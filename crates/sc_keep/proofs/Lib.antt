@@ -20,3 +20,4 @@ pub mod StartLaws
 pub mod EndingLaws
 pub mod StartedLaws
 pub mod BookLaws
+pub mod StartReady

@@ -8,9 +8,9 @@ use Rattle.sc_reading.specs.declared.settings.Flags.{Flags}
 use Rattle.sc_reading.specs.declared.settings.Params.{Params}
 use Rattle.sc_reading.specs.declared.settings.Home.{Home}
 use Rattle.sc_reading.specs.declared.settings.Home.TheVariants.{Demodulators}
-use Rattle.sc_rules.specs.Book.{Book, IsDerived}
+use Rattle.sc_rules.specs.Book.{Book, IsDerived, IsSound, next_number}
 use Rattle.sc_keep.specs.declared.lists.Lists.{Lists}
-use Rattle.sc_keep.specs.Lists.{book_of}
+use Rattle.sc_keep.specs.Lists.{AreReady, book_of}
 
 -- a problem, its book, and whether the book is whole: want of memory may have left it halfway
 pub record State : Type 0 where
@@ -27,11 +27,14 @@ pub record NeedsNoEquality (problem : Stated) : Type 0 where
   pub dynamic_demod : problem.flags.dynamic_demod ≡ false
   pub back_demod : problem.flags.back_demod ≡ false
 
--- what a book keeps: while it is whole, each derived clause follows by its derivation
-pub record IsState (state : State) : Type 0 where
+-- what a book of these lists keeps: while it is whole, each derived clause follows by its derivation, each clause of a
+-- list is the one that has its number, and the lists are ready for a conclusion
+pub record IsState (lists : Lists) (state : State) : Type 0 where
   pub problem : IsProblem state.problem
   pub no_equality : NeedsNoEquality state.problem
   pub derived : state.whole ≡ true → IsDerived state.problem state.book
+  pub sound : state.whole ≡ true → IsSound state.problem state.book
+  pub ready : state.whole ≡ true → AreReady lists (next_number state.problem state.book)
 
 -- the book before the start
 abbrev pub empty_book : Book

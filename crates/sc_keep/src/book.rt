@@ -63,7 +63,7 @@ impl Model for Book {
 
     ghost view = { λ b. state_of b.symbols b.inputs b.homes b.flags b.params b.lists b.whole };
 
-    ghost invariant = { λ b. IsState (state_of b.symbols b.inputs b.homes b.flags b.params b.lists b.whole) };
+    ghost invariant = { λ b. IsState b.lists (state_of b.symbols b.inputs b.homes b.flags b.params b.lists b.whole) };
 }
 
 impl Book {
