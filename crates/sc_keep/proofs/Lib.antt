@@ -19,3 +19,5 @@ pub mod GivenLaws
 pub mod StartLaws
 pub mod EndingLaws
 pub mod StartedLaws
+pub mod BookLaws
+pub mod StartReady

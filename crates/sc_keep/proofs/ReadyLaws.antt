@@ -41,7 +41,7 @@ differ_pushed : (m : ℕ) (ps : List Numbered) (n : Numbered) → AllByRecursion
 differ_pushed m [] n h e = (e, tt)
 differ_pushed m (p ∷ ps) n h e = (h.0, differ_pushed m ps n h.1 e)
 
-less_differs : (m n : ℕ) → m < n → nat_eq m n ≡ false
+pub less_differs : (m n : ℕ) → m < n → nat_eq m n ≡ false
 less_differs m n less = by (nat_eq m n) refl
   where
     by : (b : Bool) → nat_eq m n ≡ b → nat_eq m n ≡ false

@@ -9,3 +9,4 @@ pub mod Dropping
 pub mod Lists
 pub mod Start
 pub mod Started
+pub mod State

@@ -1,0 +1,167 @@
+//! The book: the clauses that the prover keeps.
+
+ghost use Rattle.std.specs.Prelude.{◌≡◌, ◌<◌, ◌≤◌, ◌+◌, [], true, false, IfOk, OnOk, OnErr, IsSomeAnd, Contains, Some, length};
+ghost use Rattle.sc_data.specs.Numbering.{numbered};
+ghost use Rattle.sc_data.specs.Proof.{IsProof};
+ghost use Rattle.sc_data.specs.declared.Numbered.{Numbered as ANumbered};
+ghost use Rattle.sc_steps.specs.Derivation.{all_clauses};
+ghost use Rattle.sc_rules.specs.Book.{numbered_clauses};
+ghost use Rattle.sc_rules.specs.Turn.{with_given};
+ghost use Rattle.sc_rules.specs.Start.{Starts};
+ghost use Rattle.sc_keep.specs.State.{NeedsNoEquality, empty_book};
+
+use crate::copies::{copy_clauses, copy_symbols};
+use crate::given::give;
+use crate::lists::Lists;
+use crate::start::start_lists;
+use sc_data::{Clause, Line};
+use sc_problem::Problem;
+use sc_reading::{Flags, Home, Params};
+use sc_steps::{Derived, splice};
+use sc_term::{Mem, Symbol};
+use sqlite_items::Items;
+use std::alloc::Global;
+use std::marker::Model;
+
+/// The clause of that number: the derived clauses have the numbers after those of the input clauses.
+fn clause_at<'a>(inputs: &'a [Clause], derived: &'a [Derived], n: u32) -> &'a Clause
+    requires there { 0 < n }
+    requires within { n ≤ length inputs.now + length derived.now }
+    ensures { numbered (all_clauses inputs.now derived.now) n ≡ Some result.now }
+{
+    let at = n as usize - 1;
+    if at < inputs.len() {
+        &inputs[at]
+    } else {
+        &derived[at - inputs.len()].clause
+    }
+}
+
+/// A problem that needs no equality (`NeedsNoEquality`) and the clauses that the prover keeps for it. Contracts see the
+/// problem, the definition's book and whether it is whole (`State`); `IsState` says what each keeps. After a call that
+/// answered want of memory the book isn't whole, and nothing is known of its clauses.
+#[derive(Drop)]
+pub struct Book {
+    alloc: Global,
+    symbols: Items<Symbol>,
+    inputs: Items<Clause>,
+    homes: Items<Home>,
+    flags: Flags,
+    params: Params,
+    lists: Lists,
+    whole: bool,
+}
+
+impl Model for Book {
+    ghost use Rattle.std.specs.Coded.{codes};
+    ghost use Rattle.sc_data.specs.contracts.Term as term;
+    ghost use Rattle.sc_keep.specs.State.{State, IsState, state_of};
+
+    ghost Value = { State };
+
+    ghost coded = { Prim.hlevel (codes, term.the_row.coded) };
+
+    ghost view = { λ b. state_of b.symbols b.inputs b.homes b.flags b.params b.lists b.whole };
+
+    ghost invariant = { λ b. IsState b.lists (state_of b.symbols b.inputs b.homes b.flags b.params b.lists b.whole) };
+}
+
+impl Book {
+    /// The book of the problem before the start.
+    pub fn new(alloc: Global, problem: &Problem) -> Mem<Book>
+        requires { NeedsNoEquality problem.now }
+        ensures { IfOk result (λ book. book ≡ record { problem = problem.now; book = empty_book; whole = true }) }
+    {
+        problem.keeps();
+        let symbols = copy_symbols(alloc, problem.sig())?;
+        let inputs = copy_clauses(alloc, problem.inputs().as_slice())?;
+        let homes = Items::from_slice(alloc, problem.homes().as_slice())?;
+        Ok(Book {
+            alloc,
+            symbols,
+            inputs,
+            homes,
+            flags: problem.flags(),
+            params: problem.params(),
+            lists: Lists {
+                derived: Items::new(alloc),
+                usable: Items::new(alloc),
+                sos: Items::new(alloc),
+                passive: Items::new(alloc),
+                kept: Items::new(alloc),
+            },
+            whole: true,
+        })
+    }
+
+    /// Whether the last call that changes the book, if any, had enough memory.
+    pub fn is_whole(&self) -> bool
+        ensures { result ≡ self.now.whole }
+    {
+        self.whole
+    }
+}
+
+impl Book {
+    /// The start of a run (`Starts`): the lists of the input, and the number of the empty clause where that ends the run.
+    pub fn start(&mut self) -> Mem<Option<u32>>
+        ensures starts { IfOk result (λ goal. Starts self.old.problem self.new.book goal) }
+        ensures problem { self.new.problem ≡ self.old.problem }
+        ensures whole { OnOk result (self.new.whole ≡ true) }
+        ensures halfway { OnErr result (self.new.whole ≡ false) }
+    {
+        match start_lists(self.alloc, self.inputs.as_slice(), self.homes.as_slice()) {
+            Ok(started) => {
+                self.lists = started.lists;
+                self.whole = true;
+                Ok(started.goal)
+            }
+            Err(error) => {
+                self.whole = false;
+                Err(error)
+            }
+        }
+    }
+
+    /// The clause of that number, which has to be in sos, goes to the end of usable (`with_given`).
+    pub fn give(&mut self, n: u32) -> Mem<()>
+        requires { (p : ANumbered) × Contains self.old.book.sos p × (p.number ≡ n) }
+        ensures given { OnOk result ((p : ANumbered) × Contains self.old.book.sos p × (p.number ≡ n) × (self.new.book ≡ with_given self.old.book p)) }
+        ensures problem { self.new.problem ≡ self.old.problem }
+        ensures whole { OnOk result (self.new.whole ≡ self.old.whole) }
+        ensures halfway { OnErr result (self.new.whole ≡ false) }
+    {
+        match give(&mut self.lists, n) {
+            Ok(()) => Ok(()),
+            Err(error) => {
+                self.whole = false;
+                Err(error)
+            }
+        }
+    }
+}
+
+impl Book {
+    /// The clause of that number, which has to be that of an input clause or of a derived one, whose numbers follow.
+    pub fn clause(&self, n: u32) -> &Clause
+        requires there { 0 < n }
+        requires within { n ≤ length self.now.problem.inputs + length self.now.book.derived }
+        ensures { numbered (numbered_clauses self.now.problem self.now.book) n ≡ Some result.now }
+    {
+        clause_at(self.inputs.as_slice(), self.lists.derived.as_slice(), n)
+    }
+
+    /// The lines of the clauses that clause number `goal` needs: where it is empty, a proof of the input clauses
+    /// (`IsProof`). The book has to be whole. The answer is `OutOfMemory` too where there would be 4,294,967,295 lines or
+    /// more.
+    pub fn proof(&self, goal: u32) -> Mem<Items<Line>>
+        requires whole { self.now.whole ≡ true }
+        requires there { 0 < goal }
+        requires within { goal ≤ length self.now.problem.inputs + length self.now.book.derived }
+        ensures { IfOk result (λ lines. IsSomeAnd (numbered (numbered_clauses self.now.problem self.now.book) goal) (λ c. c.literals ≡ [])
+            → IsProof self.now.problem.inputs lines) }
+    {
+        let lines = splice(self.alloc, &self.inputs, &self.lists.derived, goal)?;
+        Ok(lines)
+    }
+}
