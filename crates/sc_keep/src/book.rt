@@ -16,7 +16,7 @@ use crate::fate::process_lines;
 use crate::given::give;
 use crate::lists::Lists;
 use crate::start::start_lists;
-use sc_data::{Clause, Line};
+use sc_data::{Clause, Line, Numbered};
 use sc_problem::Problem;
 use sc_reading::{Flags, Home, Params};
 use sc_rules::Processed;
@@ -182,6 +182,27 @@ impl Book {
         ensures { numbered (numbered_clauses self.now.problem self.now.book) n ≡ Some result.now }
     {
         clause_at(self.inputs.as_slice(), self.lists.derived.as_slice(), n)
+    }
+
+    /// The usable clauses.
+    pub fn usable(&self) -> &[Numbered]
+        ensures { result.now ≡ self.now.book.usable }
+    {
+        self.lists.usable.as_slice()
+    }
+
+    /// The clauses of the set of support, in order of age.
+    pub fn sos(&self) -> &[Numbered]
+        ensures { result.now ≡ self.now.book.sos }
+    {
+        self.lists.sos.as_slice()
+    }
+
+    /// The passive clauses.
+    pub fn passive(&self) -> &[Numbered]
+        ensures { result.now ≡ self.now.book.passive }
+    {
+        self.lists.passive.as_slice()
     }
 
     /// The lines of the clauses that clause number `goal` needs: where it is empty, a proof of the input clauses

@@ -1,4 +1,4 @@
-use Rattle.std.proofs.Common.{◌≡◌, ◌∙◌, sym, ap, subst, refl, ◌+◌, ◌<◌, ◌^◌, length, length-append, map, true, arith}
+use Rattle.std.proofs.Common.{sym, subst, refl, ◌+◌, ◌<◌, ◌^◌, length, length-append, map, arith}
 use Rattle.std.proofs.lemmas.List.{length-map}
 use Rattle.sc_steps.specs.declared.derivation.Derived.{Derived}
 use Rattle.sc_data.specs.Proof.{AreSteps}
