@@ -1,23 +1,26 @@
 //! The book: the clauses that the prover keeps.
 
-ghost use Rattle.std.specs.Prelude.{◌≡◌, ◌<◌, ◌≤◌, ◌+◌, [], true, false, IfOk, OnOk, OnErr, IsSomeAnd, Contains, Some, length};
+ghost use Rattle.std.specs.Prelude.{◌≡◌, ◌<◌, ◌≤◌, ◌+◌, ◌^◌, [], true, false, IfOk, OnOk, OnErr, IsSomeAnd, Contains, Some, length};
 ghost use Rattle.sc_data.specs.Numbering.{numbered};
-ghost use Rattle.sc_data.specs.Proof.{IsProof};
+ghost use Rattle.sc_data.specs.Proof.{AreSteps, IsProof};
 ghost use Rattle.sc_data.specs.declared.Numbered.{Numbered as ANumbered};
-ghost use Rattle.sc_steps.specs.Derivation.{all_clauses};
-ghost use Rattle.sc_rules.specs.Book.{numbered_clauses};
+ghost use Rattle.sc_steps.specs.Derivation.{all_clauses, last_clause};
+ghost use Rattle.sc_rules.specs.Book.{next_number, numbered_clauses};
+ghost use Rattle.sc_rules.specs.Processing.{Processes};
 ghost use Rattle.sc_rules.specs.Turn.{with_given};
 ghost use Rattle.sc_rules.specs.Start.{Starts};
 ghost use Rattle.sc_keep.specs.State.{NeedsNoEquality, empty_book};
 
 use crate::copies::{copy_clauses, copy_symbols};
+use crate::fate::process_lines;
 use crate::given::give;
 use crate::lists::Lists;
 use crate::start::start_lists;
-use sc_data::{Clause, Line};
+use sc_data::{Clause, Line, Numbered};
 use sc_problem::Problem;
 use sc_reading::{Flags, Home, Params};
-use sc_steps::{Derived, splice};
+use sc_rules::Processed;
+use sc_steps::{Derived, Made, splice};
 use sc_term::{Mem, Symbol};
 use sqlite_items::Items;
 use std::alloc::Global;
@@ -123,6 +126,36 @@ impl Book {
         }
     }
 
+    /// Processes a conclusion in this turn (`Processes`): it is simplified, and dropped, or kept with what follows. Its
+    /// lines have to be steps from the clauses of the book, which has to be whole.
+    pub fn process(&mut self, made: Made, turn: u32) -> Mem<Processed>
+        requires whole { self.old.whole ≡ true }
+        requires steps { AreSteps (numbered_clauses self.old.problem self.old.book) made.lines }
+        requires short { IsSomeAnd (last_clause made.lines) (λ c. length made.lines + length c.literals < 2 ^ 32) }
+        requires few { length self.old.problem.inputs + length self.old.book.derived + 2 < 2 ^ 32 }
+        ensures processes { IfOk result (λ out. Processes self.old.problem self.old.book made.lines turn self.new.book out) }
+        ensures problem { self.new.problem ≡ self.old.problem }
+        ensures whole { OnOk result (self.new.whole ≡ true) }
+        ensures halfway { OnErr result (self.new.whole ≡ false) }
+    {
+        let number = (self.inputs.len() + self.lists.derived.len()) as u32 + 1;
+        match process_lines(
+            self.alloc,
+            self.flags,
+            self.params,
+            number,
+            &mut self.lists,
+            made.lines,
+            turn,
+        ) {
+            Ok(out) => Ok(out),
+            Err(error) => {
+                self.whole = false;
+                Err(error)
+            }
+        }
+    }
+
     /// The clause of that number, which has to be in sos, goes to the end of usable (`with_given`).
     pub fn give(&mut self, n: u32) -> Mem<()>
         requires { (p : ANumbered) × Contains self.old.book.sos p × (p.number ≡ n) }
@@ -149,6 +182,27 @@ impl Book {
         ensures { numbered (numbered_clauses self.now.problem self.now.book) n ≡ Some result.now }
     {
         clause_at(self.inputs.as_slice(), self.lists.derived.as_slice(), n)
+    }
+
+    /// The usable clauses.
+    pub fn usable(&self) -> &[Numbered]
+        ensures { result.now ≡ self.now.book.usable }
+    {
+        self.lists.usable.as_slice()
+    }
+
+    /// The clauses of the set of support, in order of age.
+    pub fn sos(&self) -> &[Numbered]
+        ensures { result.now ≡ self.now.book.sos }
+    {
+        self.lists.sos.as_slice()
+    }
+
+    /// The passive clauses.
+    pub fn passive(&self) -> &[Numbered]
+        ensures { result.now ≡ self.now.book.passive }
+    {
+        self.lists.passive.as_slice()
     }
 
     /// The lines of the clauses that clause number `goal` needs: where it is empty, a proof of the input clauses

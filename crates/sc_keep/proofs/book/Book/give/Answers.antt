@@ -1,4 +1,4 @@
-use Rattle.std.proofs.Common.{◌≡◌, sym, subst}
+use Rattle.std.proofs.Common.{sym, subst}
 use Rattle.sc_rules.specs.Book.{IsDerived, IsSound}
 use Rattle.sc_keep.specs.State.{state_of}
 use Rattle.sc_rules.proofs.TurnLaws.{given_sound}

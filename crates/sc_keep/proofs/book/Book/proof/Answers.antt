@@ -1,4 +1,4 @@
-use Rattle.std.proofs.Common.{◌≡◌, ◌∙◌, ap}
+use Rattle.std.proofs.Common.{◌∙◌, ap}
 use Rattle.sc_keep.specs.State.{State}
 use Rattle.sc_keep.proofs.book.Book.proof.Goals as goal
 
