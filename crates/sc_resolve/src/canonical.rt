@@ -1,6 +1,6 @@
 //! The end of a derivation: the canonical form of its last clause.
 
-ghost use Rattle.std.specs.Prelude.{◌≡◌, ◌↔◌, ◌<◌, ◌≤◌, ℕ, Some, length, nat_eq, slice_get, IfOk, IsTrue};
+ghost use Rattle.std.specs.Prelude.{◌≡◌, ◌↔◌, ◌<◌, ◌≤◌, ◌+◌, ◌^◌, ℕ, Some, length, nat_eq, slice_get, IfOk, IsTrue};
 ghost use Rattle.std.specs.List.{position_or_len};
 ghost use Rattle.sc_data.specs.declared.Term.{Var as AVar};
 ghost use Rattle.sc_data.specs.Clause.{IsWithinLimits, counting_from};
@@ -79,7 +79,7 @@ pub fn is_kept(alloc: Global, c: &Clause) -> Mem<bool>
 /// The conclusion with its derivation, which gets an `instance` line to the canonical form of its last clause, unless
 /// that is canonical already.
 pub fn finish(alloc: Global, mut lines: Items<Line>, clause: Clause) -> Mem<Made>
-    requires few { length lines < 900 }
+    requires few { length lines + 1 < 2 ^ 32 }
     requires ends { last_clause lines ≡ Some clause }
     requires within { IsWithinLimits clause }
     ensures { IfOk result (λ made. EndsCanonical lines made.lines) }

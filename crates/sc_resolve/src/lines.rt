@@ -1,6 +1,6 @@
 //! How derivations are put together, line by line.
 
-ghost use Rattle.std.specs.Prelude.{◌≡◌, ◌↔◌, ◌<◌, ◌≤◌, ◌+◌, ◌∷◌, [], ◌++◌, ℕ, Some, length, IfOk, OnOk, IsTrue, MatchOption};
+ghost use Rattle.std.specs.Prelude.{◌≡◌, ◌↔◌, ◌<◌, ◌≤◌, ◌+◌, ◌^◌, ◌∷◌, [], ◌++◌, ℕ, Some, length, IfOk, OnOk, IsTrue, MatchOption};
 ghost use Rattle.sc_data.specs.declared.Step.TheVariants.{Input};
 ghost use Rattle.sc_data.specs.Proof.{clause_of};
 ghost use Rattle.sc_steps.specs.Derivation.{IsInputAt};
@@ -27,7 +27,7 @@ fn is_input(step: &Step, n: u32) -> bool
 
 /// The first line, from 1, that is `input n`.
 fn input_line(lines: &[Line], n: u32) -> Option<u32>
-    requires { length lines.now < 1000 }
+    requires { length lines.now < 2 ^ 32 }
     ensures { MatchOption result ((j : ℕ) → ¬ IsInputAt lines.now n j) (λ k. IsFirstInput lines.now n k) }
 {
     for at in 0..lines.len() {
@@ -40,7 +40,7 @@ fn input_line(lines: &[Line], n: u32) -> Option<u32>
 
 /// Adds the line. The answer is its number.
 pub fn add_line(lines: &mut Items<Line>, step: Step, clause: Clause) -> Mem<u32>
-    requires { length lines.old < 1000 }
+    requires { length lines.old + 1 < 2 ^ 32 }
     ensures { IfOk result (λ k. IsAdded lines.old step clause lines.new k) }
 {
     lines.push(Line { step, clause })?;
@@ -49,7 +49,7 @@ pub fn add_line(lines: &mut Items<Line>, step: Step, clause: Clause) -> Mem<u32>
 
 /// The line that has the clause by its number. It is added where there is none.
 fn add_input(alloc: Global, lines: &mut Items<Line>, parent: &Numbered) -> Mem<u32>
-    requires few { length lines.old < 900 }
+    requires few { length lines.old + 1 < 2 ^ 32 }
     requires known { IsKnown lines.old parent.now }
     ensures { IfOk result (λ k. HasInput lines.old parent.now lines.new k) }
 {
@@ -70,7 +70,7 @@ pub fn add_part(
     terms: Items<Term>,
     part: &Clause,
 ) -> Mem<u32>
-    requires few { length lines.old < 800 }
+    requires few { length lines.old + 2 < 2 ^ 32 }
     requires known { IsKnown lines.old parent.now }
     requires terms { AreTermsTo parent.now.clause part.now terms }
     ensures { IfOk result (λ k. HasPart lines.old parent.now part.now lines.new k) }
