@@ -1,9 +1,11 @@
 -- What the book keeps.
-use Rattle.std.proofs.Common.{◌≡◌, ◌∙◌, sym, ap, refl, ℕ, suc, ◌+◌, List, [], ◌∷◌, ◌++◌, Option, Some, All, take, slice_get, arith, subst, ◌<◌}
+use Rattle.std.proofs.Common.{◌≡◌, ◌∙◌, sym, ap, refl, ℕ, suc, ◌+◌, List, [], ◌∷◌, ◌++◌, Option, Some, All, length, length-append, map, take, slice_get, arith, subst, ◌<◌}
 use Rattle.std.specs.List.{AllByRecursion}
 use Rattle.std.proofs.Math.Seq.{take-suc}
 use Rattle.std.proofs.lemmas.Option.{slice_get_within, get_or_from_slice_get}
+use Rattle.std.proofs.lemmas.List.{length-map}
 use Rattle.std.proofs.lemmas.List.Elements.{All-nil, All-cons}
+use Rattle.sc_steps.specs.declared.derivation.Derived.{Derived}
 use Rattle.sc_data.specs.declared.Clause.{Clause}
 use Rattle.sc_term.specs.declared.symbol.Symbol.{Symbol}
 use Rattle.sc_reading.specs.Problem.{Stated}
@@ -23,7 +25,6 @@ use Rattle.sc_rules.specs.Start.{Starts}
 use Rattle.sc_rules.specs.Run.{started}
 use Rattle.sc_rules.proofs.DerivedRun.{run_derived}
 use Rattle.sc_keep.specs.Rivals.{IsFit, IsFitClause}
-use Rattle.sc_keep.proofs.LightLaws.{light_fits}
 
 -- ---- copies
 
@@ -34,14 +35,22 @@ one_copied {A} xs now mid i x at so_far more =
     let same : i + 1 ≡ suc i = omega arith in
     more ∙ ap (λ (ys : List A). ys ++ x ∷ []) so_far ∙ sym one ∙ ap (λ k. take k xs) (sym same)
 
+-- ---- numbers
+
+pub clauses_long : (problem : Stated) (book : Book) → length (numbered_clauses problem book) ≡ length problem.inputs + length book.derived
+clauses_long problem book =
+    let f = λ (d : Derived). d.clause in
+    let long = length-append problem.inputs (map f book.derived) in
+    let count = length-map book.derived f in
+    omega (arith, long, count)
+
 -- ---- the start
 
 pub fits : (symbols : List Symbol) (cs : List Clause) → AllByRecursion (IsInput symbols) cs → All IsFitClause cs
 fits symbols [] h = All-nil IsFitClause
 fits symbols (c ∷ cs) h =
     let light = h.0.light in
-    let fit = light_fits c 0 1000 h.0.canonical (omega arith) (λ more. omega (arith, more, light)) in
-    All-cons IsFitClause c cs (fit.canonical, fit.narrow) (fits symbols cs h.1)
+    All-cons IsFitClause c cs (h.0.canonical, record { light = omega (arith, light); shallow = h.0.shallow }) (fits symbols cs h.1)
 
 pub starts_derived : (problem : Stated) (book : Book) (goal : Option ℕ) → IsProblem problem → Starts problem book goal → IsDerived problem book
 starts_derived problem book goal such h = run_derived problem [] (started book goal) such (record { book = book; goal = goal; starts = h; goes = refl })

@@ -152,9 +152,10 @@ module _ (c : Clause) where
 
 -- ---- the end of a derivation
 
--- what ends canonical has a line, and its last clause is canonical
-pub ends_with_canonical : (before after : List Line) → EndsCanonical before after → (0 < length after) × ((c : Clause) → last_clause after ≡ Some c → IsCanonical c)
-ends_with_canonical before after h =
+-- what ends canonical has a line, and its last clause is the one before, where that is canonical, or the canonical form
+pub ends_with : (P : Clause → Type 0) (before after : List Line) → EndsCanonical before after → ((c : Clause) → last_clause before ≡ Some c → IsCanonical c → P c)
+    → ((c : Clause) → last_clause before ≡ Some c → P (canonical c)) → (0 < length after) × ((c : Clause) → last_clause after ≡ Some c → P c)
+ends_with P before after h stays goes =
     let found = some_and (last_clause before) (λ c. Where (IsCanonical c) (after ≡ before) ((terms : List Term) × AreTermsTo c (canonical c) terms × Adds before (Instance (length before) terms) after)) h in
     by found.0 found.1 found.2
   where
@@ -162,12 +163,12 @@ ends_with_canonical before after h =
     same x y e = cc
 
     by : (c : Clause) → last_clause before ≡ Some c → Where (IsCanonical c) (after ≡ before) ((terms : List Term) × AreTermsTo c (canonical c) terms × Adds before (Instance (length before) terms) after)
-        → (0 < length after) × ((d : Clause) → last_clause after ≡ Some d → IsCanonical d)
+        → (0 < length after) × ((d : Clause) → last_clause after ≡ Some d → P d)
     by c last (inl k) =
         let line = mapped (λ (l : Line). l.clause) (numbered before (length before)) c last in
         let within = number_within before (length before) line.0 line.1 in (
           subst (λ (ls : List Line). 0 < length ls) (sym k.1) within.0,
-          λ d e. subst IsCanonical (same c d (sym last ∙ ap last_clause (sym k.1) ∙ e)) k.0,
+          λ d e. subst P (same c d (sym last ∙ ap last_clause (sym k.1) ∙ e)) (stays c last k.0),
         )
     by c last (inr k) =
         let terms = k.1.0 in
@@ -177,4 +178,8 @@ ends_with_canonical before after h =
         let is : made ≡ canonical c = follows.2.1 ∙ ap (instance terms) (same follows.0 c (sym follows.1 ∙ last)) ∙ k.1.1.gives in
         let long : length after ≡ length before + 1 = ap (λ (ls : List Line). length ls) k.1.2.2 ∙ length-append before (line ∷ []) in
         let there : last_clause after ≡ Some made = ap (clause_of after) long ∙ ap (λ ls. clause_of ls (length before + 1)) k.1.2.2 ∙ clause_of_end before line in
-        (omega (arith, long), λ d e. subst IsCanonical (sym is ∙ same made d (sym there ∙ e)) (is_canonical c))
+        (omega (arith, long), λ d e. subst P (sym is ∙ same made d (sym there ∙ e)) (goes c last))
+
+-- so its last clause is canonical
+pub ends_with_canonical : (before after : List Line) → EndsCanonical before after → (0 < length after) × ((c : Clause) → last_clause after ≡ Some c → IsCanonical c)
+ends_with_canonical before after h = ends_with IsCanonical before after h (λ c there k. k) (λ c there. is_canonical c)

@@ -1,12 +1,12 @@
 -- The end of a derivation in the canonical form.
-use Rattle.std.proofs.Common.{◌≡◌, ◌∙◌, sym, ap, subst, refl, ℕ, ◌-◌, ◌<◌, inl, inr, List, [], ◌∷◌, ◌++◌, length, get_or, slice_get, Some, None, Option, arith}
+use Rattle.std.proofs.Common.{◌≡◌, ◌∙◌, sym, ap, subst, refl, ℕ, ◌-◌, ◌<◌, ◌≤◌, inl, inr, List, [], ◌∷◌, ◌++◌, length, get_or, slice_get, Some, None, Option, arith}
 use Rattle.std.specs.Prelude.{IsSomeAnd, MatchOption}
 use Rattle.std.proofs.lemmas.Option.{slice_get-get_or}
 use Rattle.sc_data.specs.declared.Term.{Term}
 use Rattle.sc_data.specs.declared.Clause.{Clause}
 use Rattle.sc_data.specs.declared.Line.{Line}
 use Rattle.sc_data.specs.declared.Step.TheVariants.{Instance}
-use Rattle.sc_data.specs.Clause.{IsCanonical, instance, width}
+use Rattle.sc_data.specs.Clause.{IsCanonical, instance, weight, width}
 use Rattle.sc_data.specs.JointInstance.{canonical}
 use Rattle.sc_data.specs.Numbering.{numbered}
 use Rattle.sc_steps.specs.Derivation.{last_clause}
@@ -14,6 +14,7 @@ use Rattle.sc_steps.proofs.LineLaws.{number_at, map_some}
 use Rattle.sc_rules.specs.Order.{Where}
 use Rattle.sc_rules.specs.Derivation.{Adds, AreTermsTo, EndsCanonical}
 use Rattle.sc_keep.specs.Canonical.{IsCanonicalLine}
+use Rattle.sc_keep.proofs.WithinLaws.{EndsWithin, each_within}
 
 some_here : {A : Type 0} (o : Option A) (P : A → Type 0) (x : A) → o ≡ Some x → P x → IsSomeAnd o P
 some_here o P x e h = subst (λ o. IsSomeAnd o P) (sym e) h
@@ -55,3 +56,8 @@ pub ends_with_line : (seen lines : List Line) (k : ℕ) (x : Line) (of : ℕ) (o
 ends_with_line seen lines k x of o line after same some last here is h e =
     let found = subst (λ (n : ℕ). Found lines n x of (Some line)) last (subst (λ (ls : List Line). Found ls k x of (Some line)) same (subst (Found seen k x of) is h)) in
     goes_canonical lines some x of line after here found.0 found.1 e
+
+pub last_light : (seen lines : List Line) (k : ℕ) (x : Line) → seen ≡ lines → 0 < length lines → k ≡ length lines - 1 → EndsWithin lines → weight (get_or seen k x).clause ≤ 10000
+last_light seen lines k x same some last h =
+    let within = each_within lines (get_or lines (length lines - 1) x).clause h (last_read lines some x) in
+    subst (λ (ls : List Line). weight (get_or ls k x).clause ≤ 10000) (sym same) (subst (λ (n : ℕ). weight (get_or lines n x).clause ≤ 10000) (sym last) within.light)

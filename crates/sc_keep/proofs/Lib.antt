@@ -3,6 +3,7 @@ pub mod MergeLaws
 pub mod CanonicalLaws
 pub mod EndLaws
 pub mod CanonicalForm
+pub mod WithinLaws
 pub mod LightLaws
 pub mod SweepLaws
 pub mod OthersLaws

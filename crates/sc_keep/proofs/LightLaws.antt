@@ -1,17 +1,17 @@
 -- A canonical clause is no wider than heavy.
-use Rattle.std.proofs.Common.{ap, ℕ, ◌<◌, ◌≤◌, inl, inr, List, [], ◌∷◌, length, length-append, map, sum, Bool, true, false, nat_eq, if◌then◌else◌, arith}
+use Rattle.std.proofs.Common.{ap, ℕ, ◌<◌, ◌≤◌, ◌^◌, List, [], ◌∷◌, length, length-append, map, sum, Bool, true, false, nat_eq, if◌then◌else◌, arith}
 use Rattle.std.specs.List.{AllByRecursion, list_any}
 use Rattle.std.proofs.lemmas.List.Sums.{sum_by-cons}
 use Rattle.sc_data.specs.declared.Term.{Term}
 use Rattle.sc_data.specs.declared.Literal.{Literal}
 use Rattle.sc_data.specs.declared.Clause.{Clause}
 use Rattle.sc_data.specs.Term.{joined, term_weight, term_variables, weight_step}
-use Rattle.sc_data.specs.Clause.{IsCanonical, literal_weight, weight, width, variables, firsts_after}
+use Rattle.sc_data.specs.Clause.{IsCanonical, literal_weight, weight, width, variables, firsts, firsts_after}
+use Rattle.sc_data.specs.declared.Numbered.{Numbered}
 use Rattle.sc_data.proofs.TermLaws.{term_ind, fold-Var, weight-App}
 use Rattle.sc_data.proofs.TermSteps.{variables-Var, variables-App}
 use Rattle.sc_data.proofs.SubstitutionLaws.{all_of, literal_variables}
 use Rattle.sc_interp.proofs.Width.{canonical_width}
-use Rattle.sc_rules.proofs.DerivationLaws.{compared}
 use Rattle.sc_keep.specs.Rivals.{IsFit}
 
 short_row : {X : Type 0} (f : X → List ℕ) (w : X → ℕ) (xs : List X) → AllByRecursion (λ x. length (f x) ≤ w x) xs → length (joined (map f xs)) ≤ sum (map w xs)
@@ -41,17 +41,10 @@ fewer_firsts seen (n ∷ ns) = by (list_any (nat_eq n) seen) (fewer_firsts seen 
 width_light : (c : Clause) → IsCanonical c → width c ≤ weight c
 width_light c h = omega (arith, canonical_width c h, fewer_firsts [] (variables c), short_clause c)
 
--- so it is fit where it isn't too heavy
-pub light_fits : (c : Clause) (number most : ℕ) → IsCanonical c → most ≤ 1000 → ¬ (most < weight c) → IsFit (record { number = number; clause = c })
-light_fits c number most canonical light heavy =
-    let narrow = width_light c canonical in
-    record {
-      canonical = canonical;
-      narrow = elim (compared most (weight c)) [
-        | inl less ↦ absurd (heavy less)
-        | inr k ↦ elim k [
-          | inl e ↦ omega (arith, e, light, narrow)
-          | inr less ↦ omega (arith, less, light, narrow)
-        ]
-      ];
-    }
+-- a clause within the limits has few variables
+pub few_firsts : (c : Clause) → weight c ≤ 10000 → length (firsts (variables c)) ≤ 10000
+few_firsts c light = omega (arith, fewer_firsts [] (variables c), short_clause c, light)
+
+-- so two that are fit can be renamed apart
+pub narrow : (p : Numbered) → IsFit p → width p.clause < 2 ^ 30
+narrow p h = let light = h.within.light in omega (arith, width_light p.clause h.canonical, light)

@@ -1,11 +1,13 @@
 -- A conclusion that isn't dropped joins the lists, and they stay ready.
-use Rattle.std.proofs.Common.{◌≡◌, ◌∙◌, sym, ap, subst, refl, ℕ, zero, suc, ◌<◌, ◌≤◌, Bool, true, false, List, [], ◌∷◌, ◌++◌, nat_eq, append_assoc, Option, None, arith}
-use Rattle.std.specs.List.{All, AllByRecursion, IsDistinct}
+use Rattle.std.proofs.Common.{◌≡◌, ◌≢◌, ◌∙◌, sym, ap, subst, refl, ℕ, zero, suc, ◌<◌, Bool, true, false, List, [], ◌∷◌, ◌++◌, nat_eq, append_assoc, Option, None, arith}
+use Rattle.std.specs.List.{All, AllByRecursion, AllPairs, IsDistinct}
 use Rattle.std.proofs.lemmas.Bool.{eqb-true}
+use Rattle.std.proofs.lemmas.Bool.Decides.{Decides-eqb}
+use Rattle.std.proofs.lemmas.List.{get_or-map, length-map}
+use Rattle.std.proofs.lemmas.Map.Made.{AllPairs-from_IsDistinct}
 use Rattle.sc_data.specs.declared.Numbered.{Numbered}
 use Rattle.sc_data.specs.declared.Clause.{Clause}
 use Rattle.sc_data.specs.declared.Line.{Line}
-use Rattle.sc_data.specs.Clause.{IsCanonical}
 use Rattle.sc_reading.specs.Problem.{Stated}
 use Rattle.sc_reading.specs.declared.settings.Flags.{Flags}
 use Rattle.sc_reading.specs.declared.settings.Params.{Params}
@@ -14,17 +16,12 @@ use Rattle.sc_rules.specs.declared.fate.Processed.{Processed}
 use Rattle.sc_rules.specs.Book.{Book, live, next_number}
 use Rattle.sc_rules.specs.Processing.{with_kept, Keeps, MeetsFate}
 use Rattle.sc_keep.specs.Dropping.{IsDropped}
-use Rattle.sc_keep.specs.Rivals.{IsFit}
 use Rattle.sc_keep.specs.Sweep.{HaveDistinctNumbers, numbers}
 use Rattle.sc_keep.proofs.FateLaws.{kept_meets}
-use Rattle.sc_keep.proofs.LightLaws.{light_fits}
 
 module _ (flags : Flags) (params : Params) (ps : List Numbered) (c : Clause) (found : Option Fate) (none : found ≡ None) (h : IsDropped flags params ps c found) where
   pub not_dropped : IsDropped flags params ps c None
   not_dropped = subst (IsDropped flags params ps c) none h
-
-  pub kept_fits : (number : ℕ) → params.max_weight ≤ 1000 → IsCanonical c → IsFit (record { number = number; clause = c })
-  kept_fits number light canonical = light_fits c number params.max_weight canonical light not_dropped.1
 
 -- ---- one more at the end
 
@@ -77,3 +74,12 @@ module _ (problem : Stated) (old mid new : Book) (n : Numbered) (lines : List Li
       (subst (λ (ps : Params). IsDropped flags ps (live old) n.clause None) (sym same_params) (not_dropped flags params (live old) n.clause found none h)))
       (subst (λ k. Keeps problem (with_kept problem old n.clause lines turn) (record { number = k; clause = n.clause }) new out) number
       (subst (λ b. Keeps problem b n new out) joined (keeps (ap (λ (fs : Flags). fs.back_sub) same_flags) (ap (λ (fs : Flags). fs.dynamic_demod) same_flags ∙ no_demod))))
+
+-- ---- distinct numbers, said of pairs
+
+pub apart : (ps : List Numbered) → HaveDistinctNumbers ps → AllPairs (λ p q. p.number ≢ q.number) ps
+apart ps h i j d less within =
+    let long = length-map ps (λ (p : Numbered). p.number) in
+    let first = get_or-map (λ (p : Numbered). p.number) ps i d d.number (omega (arith, less, within)) in
+    let second = get_or-map (λ (p : Numbered). p.number) ps j d d.number within in
+    λ e. AllPairs-from_IsDistinct Decides-eqb (numbers ps) h i j d.number less (omega (arith, long, within)) (first ∙ e ∙ sym second)

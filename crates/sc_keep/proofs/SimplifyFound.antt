@@ -1,6 +1,7 @@
 -- Where nothing rewrites and nothing cuts, merging and the canonical form are all of it.
 use Rattle.std.proofs.Common.{◌≡◌, subst, sym, refl, ℕ, zero, suc, ◌+◌, ◌<◌, List, [], length, Bool, false, arith}
 use Rattle.std.specs.Prelude.{IsSomeAnd}
+use Rattle.sc_data.specs.declared.Clause.{Clause}
 use Rattle.sc_data.specs.declared.Line.{Line}
 use Rattle.sc_data.specs.declared.Numbered.{Numbered}
 use Rattle.sc_data.specs.Numbering.{numbered}
@@ -33,6 +34,12 @@ merged_and_canonical before merged after merges canonical flags most units no_de
   merges = merges;
   canonical_last = canonical;
 }
+
+pub some_line : (lines : List Line) (P : Clause → Type 0) → IsSomeAnd (last_clause lines) P → 0 < length lines
+some_line lines P h =
+    let found = some_and (last_clause lines) P h in
+    let line = mapped (λ (l : Line). l.clause) (numbered lines (length lines)) found.0 found.1 in
+    (number_within lines (length lines) line.0 line.1).0
 
 pub some_lines : (lines : List Line) (N : ℕ) → IsSomeAnd (last_clause lines) (λ c. length lines + length c.literals < N) → (0 < length lines) × (length lines < N)
 some_lines lines N h =

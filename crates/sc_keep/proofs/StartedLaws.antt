@@ -24,7 +24,7 @@ fits : (n : ℕ) (cs : List Clause) → All IsFitClause cs → All IsFit (number
 fits n [] h = All-nil IsFit
 fits n (c ∷ cs) h =
     let here = All-head IsFitClause c cs h in
-    All-cons IsFit (record { number = n; clause = c }) (numbered_from (n + 1) cs) (record { canonical = here.0; narrow = here.1 }) (fits (n + 1) cs (All-tail IsFitClause c cs h))
+    All-cons IsFit (record { number = n; clause = c }) (numbered_from (n + 1) cs) (record { canonical = here.0; within = here.1 }) (fits (n + 1) cs (All-tail IsFitClause c cs h))
 
 pub all_fit : (cs : List Clause) (all : List Numbered) → all ≡ numbered_from 1 cs → All IsFitClause cs → All IsFit all
 all_fit cs all e h = subst (All IsFit) (sym e) (fits 1 cs h)

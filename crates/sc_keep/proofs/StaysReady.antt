@@ -1,5 +1,5 @@
 -- Lists that are ready for a conclusion are so again after it was processed, and after a clause was given.
-use Rattle.std.proofs.Common.{◌≡◌, ◌∙◌, sym, ap, subst, refl, ℕ, ◌+◌, ◌<◌, ◌≤◌, inl, inr, Bool, true, false, true≢false, not, ◌||◌, cond, List, [], ◌∷◌, ◌++◌, length, length-append, append_assoc, map, nat_eq, arith}
+use Rattle.std.proofs.Common.{◌≡◌, ◌∙◌, sym, ap, subst, refl, ℕ, ◌+◌, ◌<◌, inl, inr, Bool, true, false, true≢false, not, ◌||◌, cond, List, [], ◌∷◌, ◌++◌, length, length-append, append_assoc, map, nat_eq, arith}
 use Rattle.std.specs.List.{Contains, All, AllByRecursion, list_any}
 use Rattle.std.proofs.lemmas.List.{map-append}
 use Rattle.std.proofs.lemmas.List.Elements.{All-filter, All-contains, All-append, Contains-get_or}
@@ -11,18 +11,19 @@ use Rattle.std.proofs.lemmas.Map.Keys.{IsDistinct-cons, IsDistinct-head, IsDisti
 use Rattle.sc_data.specs.declared.Numbered.{Numbered}
 use Rattle.sc_data.specs.declared.Clause.{Clause}
 use Rattle.sc_data.specs.declared.Line.{Line}
-use Rattle.sc_data.specs.Clause.{IsCanonical}
+use Rattle.sc_data.specs.Clause.{IsCanonical, IsWithinLimits}
 use Rattle.sc_reading.specs.Problem.{Stated}
 use Rattle.sc_steps.specs.declared.derivation.Derived.{Derived}
 use Rattle.sc_rules.specs.declared.fate.Processed.{Processed}
-use Rattle.sc_rules.specs.Book.{Book, leaving_out, next_number, with_deleted, with_derived}
+use Rattle.sc_rules.specs.Book.{Book, leaving_out, live, next_number, with_deleted, with_derived}
+use Rattle.sc_rules.specs.Simplification.{Simplifies}
 use Rattle.sc_rules.specs.Processing.{with_kept, Keeps, Sweeps, MeetsFate, Processes}
 use Rattle.sc_keep.specs.declared.lists.Lists.{Lists}
 use Rattle.sc_keep.specs.Lists.{AreReady, book_of}
 use Rattle.sc_keep.specs.Rivals.{IsFit}
 use Rattle.sc_keep.specs.Sweep.{HaveDistinctNumbers, numbers}
 use Rattle.sc_keep.proofs.CanonicalForm.{ends_with_canonical}
-use Rattle.sc_keep.proofs.LightLaws.{light_fits}
+use Rattle.sc_keep.proofs.WithinLaws.{EndsWithin, simplified_within}
 use Rattle.sc_keep.proofs.ReadyLaws.{all_pushed, distinct_pushed}
 
 -- the same of the book that the lists make
@@ -169,7 +170,7 @@ give_stays_ready old new n p there is h =
 
 -- ---- every fate
 
-module _ (problem : Stated) (light : problem.params.max_weight ≤ 1000) (no_demod : problem.flags.dynamic_demod ≡ false) where
+module _ (problem : Stated) (no_demod : problem.flags.dynamic_demod ≡ false) (no_deletion : problem.flags.unit_deletion ≡ false) where
   abbrev Ready : Book → Type 0
   Ready book = IsReady book (next_number problem book)
 
@@ -183,23 +184,26 @@ module _ (problem : Stated) (light : problem.params.max_weight ≤ 1000) (no_dem
   kept old new n out (inl k) h = subst Ready (sym k.1.4) (with_one_more problem old k.1.1.clause k.1.1.lines h)
   kept old new n out (inr k) h = swept old new n out k.1 h
 
-  met : (old new : Book) (c : Clause) (lines : List Line) (turn : ℕ) (out : Processed) → IsCanonical c → MeetsFate problem old c lines turn new out → Ready old → Ready new
-  met old new c lines turn out canonical (inl k) h = subst Ready (sym k.1.0) (with_one_more problem old c lines h)
-  met old new c lines turn out canonical (inr (_, inl k)) h = subst Ready (sym k.1.0) h
-  met old new c lines turn out canonical (inr (_, inr (_, inl k))) h = subst Ready (sym k.1.0) h
-  met old new c lines turn out canonical (inr (_, inr (_, inr (_, inl k)))) h = subst Ready (sym k.1.0) h
-  met old new c lines turn out canonical (inr (_, inr (_, inr (_, inr (_, inl k))))) h = subst Ready (sym k.1.2.0) h
-  met old new c lines turn out canonical (inr (_, inr (_, inr (heavy, inr (_, inr (_, k)))))) h =
+  met : (old new : Book) (c : Clause) (lines : List Line) (turn : ℕ) (out : Processed) → IsCanonical c → IsWithinLimits c → MeetsFate problem old c lines turn new out → Ready old → Ready new
+  met old new c lines turn out canonical within (inl k) h = subst Ready (sym k.1.0) (with_one_more problem old c lines h)
+  met old new c lines turn out canonical within (inr (_, inl k)) h = subst Ready (sym k.1.0) h
+  met old new c lines turn out canonical within (inr (_, inr (_, inl k))) h = subst Ready (sym k.1.0) h
+  met old new c lines turn out canonical within (inr (_, inr (_, inr (_, inl k)))) h = subst Ready (sym k.1.0) h
+  met old new c lines turn out canonical within (inr (_, inr (_, inr (_, inr (_, inl k))))) h = subst Ready (sym k.1.2.0) h
+  met old new c lines turn out canonical within (inr (_, inr (_, inr (_, inr (_, inr (_, k)))))) h =
       kept (with_kept problem old c lines turn) new (record { number = next_number problem old; clause = c }) out k
-      (joined problem old c lines turn (light_fits c (next_number problem old) problem.params.max_weight canonical light heavy) h)
+      (joined problem old c lines turn (record { canonical = canonical; within = within }) h)
 
-  processed : (old new : Book) (lines : List Line) (turn : ℕ) (out : Processed) → Processes problem old lines turn new out → Ready old → Ready new
-  processed old new lines turn out p h =
-      met old new p.clause p.simplified turn out ((ends_with_canonical p.simplifies.merged p.simplified p.simplifies.canonical_last).1 p.clause p.clause_last) p.fated h
+  processed : (old new : Book) (lines : List Line) (turn : ℕ) (out : Processed) → old.demods ≡ [] → EndsWithin lines → Processes problem old lines turn new out → Ready old → Ready new
+  processed old new lines turn out none within p h =
+      met old new p.clause p.simplified turn out ((ends_with_canonical p.simplifies.merged p.simplified p.simplifies.canonical_last).1 p.clause p.clause_last)
+      (simplified_within problem.flags problem.params.demod_limit (live old) lines p.simplified no_demod no_deletion
+      (subst (λ (ds : List Numbered). Simplifies problem.flags problem.params.demod_limit ds (live old) lines p.simplified) none p.simplifies) within p.clause p.clause_last)
+      p.fated h
 
   -- so the lists are ready again
-  pub stay_ready : (old new : Lists) (lines : List Line) (turn : ℕ) (out : Processed) → Processes problem (book_of old) lines turn (book_of new) out
+  pub stay_ready : (old new : Lists) (lines : List Line) (turn : ℕ) (out : Processed) → EndsWithin lines → Processes problem (book_of old) lines turn (book_of new) out
       → AreReady old (next_number problem (book_of old)) → AreReady new (next_number problem (book_of new))
-  stay_ready old new lines turn out p h =
-      let now = processed (book_of old) (book_of new) lines turn out p (record { usable = h.usable; sos = h.sos; passive = h.passive; distinct = h.distinct; below = h.below }) in
+  stay_ready old new lines turn out within p h =
+      let now = processed (book_of old) (book_of new) lines turn out refl within p (record { usable = h.usable; sos = h.sos; passive = h.passive; distinct = h.distinct; below = h.below }) in
       record { usable = now.usable; sos = now.sos; passive = now.passive; distinct = now.distinct; below = now.below }

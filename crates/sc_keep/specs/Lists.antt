@@ -9,8 +9,8 @@ use Rattle.sc_keep.specs.Sweep.{HaveDistinctNumbers}
 abbrev pub book_of : Lists → Book
 book_of lists = record { derived = lists.derived; usable = lists.usable; sos = lists.sos; passive = lists.passive; demods = []; kept = lists.kept }
 
--- the lists are ready for a clause of number n: the live clauses are fit to be compared with it, and those that it may
--- delete have distinct numbers, all below n
+-- the lists are ready for a clause of number n: the live clauses are canonical and within the limits, and those that it
+-- may delete have distinct numbers, all below n
 pub record AreReady (lists : Lists) (n : ℕ) : Type 0 where
   pub usable : All IsFit lists.usable
   pub sos : All IsFit lists.sos

@@ -1,22 +1,22 @@
 -- The rival of least number among clauses, as far as they were looked at.
-use Rattle.std.specs.Prelude.{◌≡◌, ◌<◌, ◌^◌, ℕ, List, Option, Some, None, Contains}
+use Rattle.std.specs.Prelude.{◌≡◌, ◌<◌, ℕ, List, Option, Some, None, Contains}
 use Rattle.sc_data.specs.declared.Clause.{Clause}
 use Rattle.sc_data.specs.declared.Numbered.{Numbered}
-use Rattle.sc_data.specs.Clause.{IsCanonical, width}
+use Rattle.sc_data.specs.Clause.{IsCanonical, IsWithinLimits}
 use Rattle.sc_rules.specs.Rewriting.{number_of}
 use Rattle.sc_rules.specs.Order.{IsLeast}
 use Rattle.sc_rules.specs.Conflict.{Conflicts}
 use Rattle.sc_rules.specs.Processing.{IsRival}
 use Rattle.sc_keep.specs.declared.rival.Rival.{Rival}
 
--- the clause is canonical, and two such can be renamed apart
+-- the clause is canonical, and within the limits
 pub record IsFit (p : Numbered) : Type 0 where
   pub canonical : IsCanonical p.clause
-  pub narrow : width p.clause < 2 ^ 30
+  pub within : IsWithinLimits p.clause
 
 -- the same of a clause without its number
 abbrev pub IsFitClause : Clause → Type 0
-IsFitClause c = IsCanonical c × (width c < 2 ^ 30)
+IsFitClause c = IsCanonical c × IsWithinLimits c
 
 -- the number is less than that of the rival found so far, if any
 abbrev pub IsBelowRival : ℕ → Option Rival → Type 0

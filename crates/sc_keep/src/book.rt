@@ -1,15 +1,18 @@
 //! The book: the clauses that the prover keeps.
 
-ghost use Rattle.std.specs.Prelude.{◌≡◌, ◌<◌, ◌≤◌, ◌+◌, ◌^◌, [], true, false, IfOk, OnOk, OnErr, IsSomeAnd, Contains, Some, length};
+ghost use Rattle.std.specs.Prelude.{◌≡◌, ◌≢◌, ◌<◌, ◌≤◌, ◌+◌, ◌-◌, ◌++◌, ◌^◌, [], true, false, min, All, AllPairs, IfOk, OnOk, OnErr, IsSomeAnd, Contains, Some, length};
+ghost use Rattle.sc_data.specs.Clause.{IsCanonical, IsWithinLimits};
 ghost use Rattle.sc_data.specs.Numbering.{numbered};
 ghost use Rattle.sc_data.specs.Proof.{AreSteps, IsProof};
 ghost use Rattle.sc_data.specs.declared.Numbered.{Numbered as ANumbered};
-ghost use Rattle.sc_steps.specs.Derivation.{all_clauses, last_clause};
-ghost use Rattle.sc_rules.specs.Book.{next_number, numbered_clauses};
+ghost use Rattle.sc_steps.specs.Derivation.{all_clauses};
+ghost use Rattle.sc_reading.specs.WellFormed.{IsProblem};
+ghost use Rattle.sc_rules.specs.Book.{IsDerived, IsSound, next_number, numbered_clauses};
 ghost use Rattle.sc_rules.specs.Processing.{Processes};
 ghost use Rattle.sc_rules.specs.Turn.{with_given};
 ghost use Rattle.sc_rules.specs.Start.{Starts};
 ghost use Rattle.sc_keep.specs.State.{NeedsNoEquality, empty_book};
+ghost use Rattle.sc_keep.specs.Sweep.{HaveDistinctNumbers};
 
 use crate::copies::{copy_clauses, copy_symbols};
 use crate::fate::process_lines;
@@ -19,7 +22,7 @@ use crate::start::start_lists;
 use sc_data::{Clause, Line, Numbered};
 use sc_problem::Problem;
 use sc_reading::{Flags, Home, Params};
-use sc_rules::Processed;
+use sc_rules::{KeptRow, Processed};
 use sc_steps::{Derived, Made, splice};
 use sc_term::{Mem, Symbol};
 use sqlite_items::Items;
@@ -97,6 +100,27 @@ impl Book {
         })
     }
 
+    /// What every book keeps. While it is whole, its derived clauses follow, each clause of a list is the one that has
+    /// its number, those of usable and sos have numbers of their own, below the next one, and every live clause is
+    /// canonical and within the limits.
+    pub fn keeps(&self)
+        ensures problem { IsProblem self.now.problem }
+        ensures no_equality { NeedsNoEquality self.now.problem }
+        ensures derived { self.now.whole ≡ true → IsDerived self.now.problem self.now.book }
+        ensures sound { self.now.whole ≡ true → IsSound self.now.problem self.now.book }
+        ensures distinct { self.now.whole ≡ true → HaveDistinctNumbers (self.now.book.usable ++ self.now.book.sos) }
+        ensures apart { self.now.whole ≡ true → AllPairs (λ p q. p.number ≢ q.number) (self.now.book.usable ++ self.now.book.sos) }
+        ensures below { self.now.whole ≡ true → All (λ p. p.number < next_number self.now.problem self.now.book) (self.now.book.usable ++ self.now.book.sos) }
+        ensures usable_canonical { self.now.whole ≡ true → All (λ p. IsCanonical p.clause) self.now.book.usable }
+        ensures usable_within { self.now.whole ≡ true → All (λ p. IsWithinLimits p.clause) self.now.book.usable }
+        ensures sos_canonical { self.now.whole ≡ true → All (λ p. IsCanonical p.clause) self.now.book.sos }
+        ensures sos_within { self.now.whole ≡ true → All (λ p. IsWithinLimits p.clause) self.now.book.sos }
+        ensures passive_canonical { self.now.whole ≡ true → All (λ p. IsCanonical p.clause) self.now.book.passive }
+        ensures passive_within { self.now.whole ≡ true → All (λ p. IsWithinLimits p.clause) self.now.book.passive }
+    {
+        let _ = &self.whole;
+    }
+
     /// Whether the last call that changes the book, if any, had enough memory.
     pub fn is_whole(&self) -> bool
         ensures { result ≡ self.now.whole }
@@ -127,11 +151,11 @@ impl Book {
     }
 
     /// Processes a conclusion in this turn (`Processes`): it is simplified, and dropped, or kept with what follows. Its
-    /// lines have to be steps from the clauses of the book, which has to be whole.
+    /// lines have to be steps from the clauses of the book, which has to be whole. The answer is `OutOfMemory` too where
+    /// its lines together with its literals would be 4,294,967,296 or more; the book isn't whole then.
     pub fn process(&mut self, made: Made, turn: u32) -> Mem<Processed>
         requires whole { self.old.whole ≡ true }
         requires steps { AreSteps (numbered_clauses self.old.problem self.old.book) made.lines }
-        requires short { IsSomeAnd (last_clause made.lines) (λ c. length made.lines + length c.literals < 2 ^ 32) }
         requires few { length self.old.problem.inputs + length self.old.book.derived + 2 < 2 ^ 32 }
         ensures processes { IfOk result (λ out. Processes self.old.problem self.old.book made.lines turn self.new.book out) }
         ensures problem { self.new.problem ≡ self.old.problem }
@@ -184,25 +208,40 @@ impl Book {
         clause_at(self.inputs.as_slice(), self.lists.derived.as_slice(), n)
     }
 
+    /// How many clauses have a number, those of the input and the derived ones, or 2^64 - 1 where they are more.
+    pub fn clause_count(&self) -> u64
+        ensures { result ≡ min (length self.now.problem.inputs + length self.now.book.derived) (2 ^ 64 - 1) }
+    {
+        let inputs = self.inputs.len() as u64;
+        inputs.saturating_add(self.lists.derived.len() as u64)
+    }
+
     /// The usable clauses.
-    pub fn usable(&self) -> &[Numbered]
+    pub fn usable(&self) -> &Items<Numbered>
         ensures { result.now ≡ self.now.book.usable }
     {
-        self.lists.usable.as_slice()
+        &self.lists.usable
     }
 
     /// The clauses of the set of support, in order of age.
-    pub fn sos(&self) -> &[Numbered]
+    pub fn sos(&self) -> &Items<Numbered>
         ensures { result.now ≡ self.now.book.sos }
     {
-        self.lists.sos.as_slice()
+        &self.lists.sos
     }
 
     /// The passive clauses.
-    pub fn passive(&self) -> &[Numbered]
+    pub fn passive(&self) -> &Items<Numbered>
         ensures { result.now ≡ self.now.book.passive }
     {
-        self.lists.passive.as_slice()
+        &self.lists.passive
+    }
+
+    /// The rows of kept clauses, in the order in which they were kept.
+    pub fn kept(&self) -> &Items<KeptRow>
+        ensures { result.now ≡ self.now.book.kept }
+    {
+        &self.lists.kept
     }
 
     /// The lines of the clauses that clause number `goal` needs: where it is empty, a proof of the input clauses

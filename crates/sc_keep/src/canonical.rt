@@ -1,44 +1,37 @@
 //! The canonical form of a conclusion, with the line of it.
 
-ghost use Rattle.std.specs.Prelude.{◌≡◌, ◌↔◌, ◌<◌, ◌≤◌, ◌^◌, IsTrue, IfOk, OnOk, MatchOption, length};
-ghost use Rattle.sc_data.specs.Clause.{counting_from, firsts, variables, IsCanonical};
+ghost use Rattle.std.specs.Prelude.{◌≡◌, ◌↔◌, ◌<◌, ◌≤◌, ◌^◌, IsTrue, IfOk, OnOk, IsSomeAnd, MatchOption, length};
+ghost use Rattle.sc_data.specs.Clause.{counting_from, firsts, variables, weight, IsCanonical, IsWithinLimits};
+ghost use Rattle.sc_steps.specs.Derivation.{last_clause};
 ghost use Rattle.sc_rules.specs.Derivation.{EndsCanonical};
 ghost use Rattle.sc_keep.specs.Canonical.{place_or_first, place_terms, IsCanonicalLine};
 
 use sc_data::{Clause, Line, Step, Term};
-use sc_term::{Mem, OutOfMemory, canonical, full_width, note_variables};
+use sc_term::{Mem, canonical, full_width, note_variables};
 use sqlite_items::Items;
 use std::alloc::Global;
 
-/// The place of the number, or 0 where it isn't there. `OutOfMemory` for a place that no variable's number can be.
-fn place_of(order: &[u32], n: usize) -> Mem<u32>
-    ensures { IfOk result (λ at. at ≡ place_or_first order.now n) }
+/// The place of the number, or 0 where it isn't there.
+fn place_of(order: &[u32], n: usize) -> u32
+    requires { length order.now ≤ 10000 }
+    ensures { result ≡ place_or_first order.now n }
 {
     for at in 0..order.len() {
         if order[at] as usize == n {
-            return Ok(number_of_place(at)?);
+            return at as u32;
         }
     }
-    Ok(0)
-}
-
-/// The place as a variable's number.
-fn number_of_place(at: usize) -> Mem<u32>
-    ensures { IfOk result (λ n. n ≡ at) }
-{
-    match u32::try_from(at) {
-        Ok(n) => Ok(n),
-        Err(_) => Err(OutOfMemory),
-    }
+    0
 }
 
 /// As many variables as the count, each with its place in the order as its number, and 0 for one without a place.
 fn places(alloc: Global, order: &[u32], count: usize) -> Mem<Items<Term>>
+    requires { length order.now ≤ 10000 }
     ensures { IfOk result (λ terms. terms ≡ place_terms order.now count) }
 {
     let mut terms = Items::new(alloc);
     for n in 0..count {
-        terms.push(Term::Var(place_of(order, n)?))?;
+        terms.push(Term::Var(place_of(order, n)))?;
     }
     Ok(terms)
 }
@@ -57,7 +50,8 @@ fn is_counting(order: &[u32]) -> bool
 
 /// The line by which a clause with variables in this order, that of line `of`, becomes canonical.
 fn canonical_line(alloc: Global, c: &Clause, order: &[u32], of: u32) -> Mem<Line>
-    requires { order.now ≡ firsts (variables c.now) }
+    requires order { order.now ≡ firsts (variables c.now) }
+    requires light { weight c.now ≤ 10000 }
     ensures { IfOk result (λ line. IsCanonicalLine c.now of line) }
 {
     let terms = places(alloc, order, full_width(c) as usize)?;
@@ -70,6 +64,7 @@ fn canonical_line(alloc: Global, c: &Clause, order: &[u32], of: u32) -> Mem<Line
 
 /// The line by which the clause of line `of` becomes canonical, unless it is so.
 fn next_canonical(alloc: Global, c: &Clause, of: u32) -> Mem<Option<Line>>
+    requires { weight c.now ≤ 10000 }
     ensures { IfOk result (λ found. MatchOption found (IsCanonical c.now) (λ line. (¬ IsCanonical c.now) × IsCanonicalLine c.now of line)) }
 {
     let mut order = Vec::new(alloc);
@@ -81,10 +76,11 @@ fn next_canonical(alloc: Global, c: &Clause, of: u32) -> Mem<Option<Line>>
     Ok(Some(line))
 }
 
-/// Adds the line of the canonical form of the last clause, unless the clause is canonical.
+/// Adds the line of the canonical form of the last clause, which is within the limits, unless the clause is canonical.
 pub fn end_canonical(alloc: Global, lines: &mut Items<Line>) -> Mem<()>
     requires some { 0 < length lines.old }
     requires few { length lines.old < 2 ^ 32 }
+    requires within { IsSomeAnd (last_clause lines.old) (λ c. IsWithinLimits c) }
     ensures { OnOk result (EndsCanonical lines.old lines.new) }
 {
     let last = lines.len() - 1;

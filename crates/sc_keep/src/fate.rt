@@ -1,14 +1,15 @@
 //! Every fate of a conclusion.
 
-ghost use Rattle.std.specs.Prelude.{◌≡◌, ◌++◌, ◌<◌, ◌≤◌, ◌+◌, ◌^◌, IfOk, IsSomeAnd, Some, false, length};
+ghost use Rattle.std.specs.Prelude.{◌≡◌, ◌↔◌, ◌++◌, ◌<◌, ◌≤◌, ◌+◌, ◌^◌, IfOk, IsSomeAnd, IsTrue, Some, false, length};
 ghost use Rattle.sc_reading.specs.Problem.{Stated};
 ghost use Rattle.sc_steps.specs.Derivation.{last_clause};
 ghost use Rattle.sc_rules.specs.Book.{next_number, with_derived};
 ghost use Rattle.sc_rules.specs.Processing.{MeetsFate, Processes, only_fate};
 ghost use Rattle.sc_rules.specs.declared.fate.Fate.TheVariants.{Empty};
 ghost use Rattle.sc_keep.specs.Dropping.{IsDropped};
-ghost use Rattle.sc_data.specs.Clause.{IsCanonical};
+ghost use Rattle.sc_data.specs.Clause.{IsWithinLimits};
 ghost use Rattle.sc_keep.specs.Lists.{AreReady, book_of};
+ghost use Rattle.sc_keep.specs.Rivals.{IsFit};
 
 use crate::dropping::dropped;
 use crate::keeping::{fate_alone, keep};
@@ -19,9 +20,19 @@ use sc_data::{Line, Numbered};
 use sc_reading::{Flags, Params};
 use sc_rules::{Fate, Processed};
 use sc_steps::Derived;
-use sc_term::{Mem, copy};
+use sc_term::{Mem, OutOfMemory, copy};
 use sqlite_items::Items;
 use std::alloc::Global;
+
+/// Whether the lines leave room for as many more, with numbers below 2^32, as their last clause has literals.
+fn has_room(lines: &[Line]) -> bool
+    requires { 0 < length lines.now }
+    ensures { IsTrue result ↔ IsSomeAnd (last_clause lines.now) (λ c. length lines.now + length c.literals < 2 ^ 32) }
+{
+    let most = u32::MAX as usize;
+    let c = &lines[lines.len() - 1].clause;
+    lines.len() <= most && c.literals.len() <= most - lines.len()
+}
 
 /// The clause that the lines end with, under the number.
 fn conclusion(alloc: Global, number: u32, lines: &[Line]) -> Mem<Numbered>
@@ -74,7 +85,7 @@ fn meet_fate(
 ) -> Mem<Processed>
     requires light { params.max_weight ≤ 1000 }
     requires ready { AreReady lists.old n.number }
-    requires canonical { IsCanonical n.clause }
+    requires fit { IsFit n }
     requires few { n.number + 1 < 2 ^ 32 }
     ensures { IfOk result (λ out. (problem : Stated) → n.number ≡ next_number problem (book_of lists.old) → problem.flags ≡ flags → problem.params ≡ params
         → flags.dynamic_demod ≡ false → MeetsFate problem (book_of lists.old) n.clause lines turn (book_of lists.new) out) }
@@ -95,8 +106,9 @@ fn meet_fate(
 
 /// Simplifies the conclusion that the lines end with and gives it its fate (`Processes`), for a problem that needs no
 /// equality: without demodulators, and with neither orientation nor unit deletion asked for. `number` is the number that
-/// it takes if it is kept, and `turn` the turn of the search. After want of memory a list may lack clauses that another
-/// has.
+/// it takes if it is kept, and `turn` the turn of the search. The conclusion has to be within the limits. The answer is
+/// `OutOfMemory` too where its lines together with its literals would be 2^32 or more. After that answer a list may lack
+/// clauses that another has.
 pub fn process_lines(
     alloc: Global,
     flags: Flags,
@@ -107,12 +119,15 @@ pub fn process_lines(
     turn: u32,
 ) -> Mem<Processed>
     requires light { params.max_weight ≤ 1000 }
-    requires short { IsSomeAnd (last_clause lines) (λ c. length lines + length c.literals < 2 ^ 32) }
+    requires within { IsSomeAnd (last_clause lines) (λ c. IsWithinLimits c) }
     requires ready { AreReady lists.old number }
     requires few { number + 1 < 2 ^ 32 }
     ensures { IfOk result (λ out. (problem : Stated) → number ≡ next_number problem (book_of lists.old) → problem.flags ≡ flags → problem.params ≡ params
         → flags.dynamic_demod ≡ false → flags.unit_deletion ≡ false → Processes problem (book_of lists.old) lines turn (book_of lists.new) out) }
 {
+    if !has_room(lines.as_slice()) {
+        return Err(OutOfMemory);
+    }
     let mut simplified = lines;
     simplify_lines(alloc, &mut simplified)?;
     let n = conclusion(alloc, number, simplified.as_slice())?;

@@ -9,8 +9,8 @@ returns-then-is_counting c =
     let order = c.as_slice.ensures.value ∙ c.in_ok-note_variables.ensures ∙ ap (λ (ns : List ℕ). noted ns (variables c.args.c.now)) c.new-order.ensures.items ∙ noted-firsts (variables c.args.c.now) in
     subst (λ (ns : List ℕ). ns ≡ counting_from 0 ns) order (c.is_counting.ensures.0 c.if-is_counting.true)
 
-pub canonical_line-requires : goal.canonical_line-requires
-canonical_line-requires c = c.as_slice-2.ensures.value ∙ c.in_ok-note_variables.ensures ∙ ap (λ (ns : List ℕ). noted ns (variables c.args.c.now)) c.new-order.ensures.items ∙ noted-firsts (variables c.args.c.now)
+pub canonical_line-requires-clause-order : goal.canonical_line-requires-clause-order
+canonical_line-requires-clause-order c = c.as_slice-2.ensures.value ∙ c.in_ok-note_variables.ensures ∙ ap (λ (ns : List ℕ). noted ns (variables c.args.c.now)) c.new-order.ensures.items ∙ noted-firsts (variables c.args.c.now)
 
 pub returns : goal.returns
 returns c =

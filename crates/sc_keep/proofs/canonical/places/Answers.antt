@@ -9,5 +9,5 @@ loop-n-init c = c.new-terms.ensures ∙ sym (no_place c.args.order.now)
 pub loop-n-preserved : goal.loop-n-preserved
 loop-n-preserved c =
     c.in_ok-push.ensures.ok
-    ∙ (λ i. c.loop-n.invariant i ++ Var (c.in_ok-place_of.ensures i) ∷ [])
+    ∙ (λ i. c.loop-n.invariant i ++ Var (c.place_of.ensures i) ∷ [])
     ∙ sym (one_more_place c.args.order.now c.loop-n.n)

@@ -1,21 +1,13 @@
-use Rattle.std.proofs.Common.{◌∙◌, ◌++◌, sym, true≢false}
+use Rattle.std.proofs.Common.{◌∙◌, sym, true≢false}
 use Rattle.sc_keep.specs.Lists.{book_of}
 use Rattle.sc_keep.specs.Rivals.{IsFit}
-use Rattle.sc_keep.proofs.ReadyLaws.{kept_fits, all_pushed, distinct_pushed, goes_on}
+use Rattle.sc_keep.proofs.ReadyLaws.{all_pushed, distinct_pushed, goes_on}
 use Rattle.sc_keep.proofs.fate.meet_fate.Goals as goal
-
-pub keep-requires-clause-fit : goal.keep-requires-clause-fit
-keep-requires-clause-fit c =
-    let lists = c.args.lists.now in
-    kept_fits c.args.flags c.args.params (lists.usable ++ lists.sos ++ lists.passive) c.args.n.clause c.in_ok-fate.field-0 c.in-None.is c.in_ok-fate.ensures
-    c.args.n.number c.requires.light c.requires.canonical
 
 pub keep-requires-clause-sos : goal.keep-requires-clause-sos
 keep-requires-clause-sos c =
     let lists = c.args.lists.now in
-    all_pushed IsFit lists.sos c.join.new.lists.sos c.args.n c.in_ok-join-in-None.ensures.sos c.requires.ready.sos
-    (kept_fits c.args.flags c.args.params (lists.usable ++ lists.sos ++ lists.passive) c.args.n.clause c.in_ok-fate.field-0 c.in-None.is c.in_ok-fate.ensures
-    c.args.n.number c.requires.light c.requires.canonical)
+    all_pushed IsFit lists.sos c.join.new.lists.sos c.args.n c.in_ok-join-in-None.ensures.sos c.requires.ready.sos c.requires.fit
 
 pub keep-requires-clause-distinct : goal.keep-requires-clause-distinct
 keep-requires-clause-distinct c =

@@ -6,10 +6,16 @@ use Rattle.sc_rules.specs.Book.{numbered_clauses}
 use Rattle.sc_rules.specs.Processing.{Processes}
 use Rattle.sc_rules.proofs.DerivedBook.{processes_goes_on}
 use Rattle.sc_rules.proofs.SoundProcessing.{processes_sound}
+use Rattle.sc_data.specs.Clause.{IsWithinLimits}
+use Rattle.sc_steps.specs.Derivation.{last_clause}
+use Rattle.sc_steps.proofs.LineLaws.{some_so}
 use Rattle.sc_keep.specs.Lists.{book_of}
 use Rattle.sc_keep.specs.State.{State, state_of}
 use Rattle.sc_keep.proofs.StaysReady.{stay_ready}
 use Rattle.sc_keep.proofs.book.Book.process.Goals as goal
+
+pub process_lines-requires-clause-within : goal.process_lines-requires-clause-within
+process_lines-requires-clause-within c = some_so (last_clause c.args.made.lines) (λ c. IsWithinLimits c) c.args.made.clause c.args.made.ends (record { light = c.args.made.light; shallow = c.args.made.shallow })
 
 pub invariant_of-self : goal.invariant_of-self
 invariant_of-self c =
@@ -24,6 +30,7 @@ invariant_of-self c =
     let such = c.self.invariant.problem in
     let off = c.self.invariant.no_equality in
     let steps = subst (λ (s : State). AreSteps (numbered_clauses s.problem s.book) c.args.made.lines) (sym c.self.view_is) c.requires.steps in
+    let within = some_so (last_clause c.args.made.lines) (λ c. IsWithinLimits c) c.args.made.clause c.args.made.ends (record { light = c.args.made.light; shallow = c.args.made.shallow }) in
     let processes : Processes state.problem old c.args.made.lines c.args.turn new c.in-Ok.out =
     c.in-Ok.ensures state.problem (omega (arith, few, long, count, inputs_long, derived_long)) refl refl off.dynamic_demod off.unit_deletion in
     record {
@@ -31,7 +38,7 @@ invariant_of-self c =
       no_equality = off;
       derived = λ whole. (processes_goes_on state.problem old c.args.made.lines c.args.turn new c.in-Ok.out (c.self.invariant.sound whole) (c.self.invariant.derived whole) steps processes).derived;
       sound = λ whole. processes_sound state.problem old c.args.made.lines c.args.turn new c.in-Ok.out (c.self.invariant.sound whole) processes;
-      ready = λ whole. stay_ready state.problem such.params.max_weight.1 off.dynamic_demod c.self.inside.lists c.process_lines.new.lists c.args.made.lines c.args.turn c.in-Ok.out processes (c.self.invariant.ready whole);
+      ready = λ whole. stay_ready state.problem off.dynamic_demod off.unit_deletion c.self.inside.lists c.process_lines.new.lists c.args.made.lines c.args.turn c.in-Ok.out within processes (c.self.invariant.ready whole);
     }
 
 pub returns-in-Ok-clause-processes : goal.returns-in-Ok-clause-processes
