@@ -8,8 +8,10 @@ use Rattle.sc_rules.specs.Order.{IsBefore}
 use Rattle.sc_rules.specs.Inference.{Inference}
 use Rattle.sc_rules.specs.Paramodulation.{IsParaFrom, IsParaInto, para_from_numbers, para_into_numbers, AreParaFromSites, AreParaIntoSites}
 use Rattle.sc_rules.proofs.StepLaws.{same_some}
+use Rattle.sc_resolve.specs.ByNumber.{AreByNumber}
 use Rattle.sc_resolve.specs.Extending.{Extends, Below}
 use Rattle.sc_resolve.proofs.Extending.{Rising, same}
+use Rattle.sc_resolve.proofs.OrderLaws.{first_by_number}
 use Rattle.sc_resolve.proofs.LiteralLaws.{contains_at, at_contains}
 use Rattle.sc_para.specs.Spots.{pair_numbers}
 use Rattle.sc_para.specs.Pairs.{IsPairSite, IsIntoPartner, IsFromPartner}
@@ -86,3 +88,18 @@ module _ (given : Numbered) (usable : List Numbered) where
       (λ x b. (b.1.listed.0, b.1.listed.1, (b.1.from, at_contains usable b.1.from b.1.listed, (b.0, b.1.para)))) in
       let room : limit - 0 ≡ limit = omega arith in
       subst (AreParaIntoSites given usable limit) (sym all.grown) (subst (λ n. AreParaIntoSites given usable n all.found) room all.first)
+
+-- ---- the same clauses in another order
+
+-- the sites with partners in the order of their numbers are those with the usable clauses
+pub from_sites_by_number : (given : Numbered) (usable ordered : List Numbered) (limit : ℕ) (sites : List ParaSite)
+    → AreByNumber usable ordered → AreParaFromSites given ordered limit sites → AreParaFromSites given usable limit sites
+from_sites_by_number given usable ordered limit sites h first =
+    first_by_number para_from_numbers (λ ps x. (i : Inference) × IsParaFrom given ps x i) usable ordered limit sites
+    (λ ps qs more x s. (s.0, record { into = s.1.into; listed = more s.1.into s.1.listed; para = s.1.para })) h first
+
+pub into_sites_by_number : (given : Numbered) (usable ordered : List Numbered) (limit : ℕ) (sites : List ParaSite)
+    → AreByNumber usable ordered → AreParaIntoSites given ordered limit sites → AreParaIntoSites given usable limit sites
+into_sites_by_number given usable ordered limit sites h first =
+    first_by_number para_into_numbers (λ ps x. (i : Inference) × IsParaInto given ps x i) usable ordered limit sites
+    (λ ps qs more x s. (s.0, record { from = s.1.from; listed = more s.1.from s.1.listed; para = s.1.para })) h first

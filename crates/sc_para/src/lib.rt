@@ -8,8 +8,8 @@
 //! limit allows, and all and only those; neither a side that is a variable nor a subterm that is one has a site.
 //! `make_para` answers the conclusion of a site with its one derivation, and None exactly where the site has no
 //! conclusion, which is where the joint instance or the conclusion is outside the limits. Clauses have to be canonical
-//! and within the limits (`IsKept`), and usable clauses in rising order of their numbers; where the two clauses of a
-//! site have one number they have to be one. Want of memory is the one other answer.
+//! and within the limits (`IsKept`). Usable clauses may stand in any order, but their numbers have to differ; where the
+//! two clauses of a site have one number they have to be one. Want of memory is the one other answer.
 #![tactic(auto)]
 
 mod conclusion;

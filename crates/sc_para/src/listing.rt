@@ -1,33 +1,32 @@
 //! The sites of paramodulation from and into the given clause.
 
-ghost use Rattle.std.specs.Prelude.{◌<◌, IfOk, All, AllPairs};
+ghost use Rattle.std.specs.Prelude.{◌≢◌, ◌<◌, IfOk, All, AllPairs};
 ghost use Rattle.sc_rules.specs.Paramodulation.{AreParaFromSites, AreParaIntoSites};
+ghost use Rattle.sc_resolve.specs.ByNumber.{seen};
 ghost use Rattle.sc_resolve.specs.Kept.{IsKept};
 
 use crate::pairs::add_with_pair;
 use sc_data::Numbered;
+use sc_resolve::by_number;
 use sc_rules::ParaSite;
 use sc_term::Mem;
 use sqlite_items::Items;
 use std::alloc::Global;
 
-/// The sites of paramodulation from the given clause into the usable clauses, in rising order of the partner's number,
-/// of the equation, with the left side before the right, of the literal and of the path, a path before those that
-/// extend it (`AreParaFromSites`): the first ones, at most as many as the limit. The numbers of the usable clauses have
-/// to rise. Where the given clause is among them it is its own partner too.
-pub fn para_from_sites(
+/// `para_from_sites` into partners in rising order of their numbers.
+fn from_sites_in_order(
     alloc: Global,
     given: &Numbered,
-    usable: &Items<Numbered>,
+    partners: &[&Numbered],
     limit: u32,
 ) -> Mem<Items<ParaSite>>
-    requires rising { AllPairs (λ p q. p.number < q.number) usable.now }
+    requires rising { AllPairs (λ p q. p.number < q.number) (seen partners.now) }
     requires given { IsKept given.now.clause }
-    requires kept { All (λ p. IsKept p.clause) usable.now }
-    ensures { IfOk result (λ sites. AreParaFromSites given.now usable.now limit sites) }
+    requires kept { All (λ p. IsKept p.clause) (seen partners.now) }
+    ensures { IfOk result (λ sites. AreParaFromSites given.now (seen partners.now) limit sites) }
 {
     let mut sites = Items::new(alloc);
-    for into in usable.as_slice() {
+    for into in partners {
         if sites.len() >= limit as usize {
             return Ok(sites);
         }
@@ -36,27 +35,62 @@ pub fn para_from_sites(
     Ok(sites)
 }
 
-/// The sites of paramodulation into the given clause from the usable clauses, in rising order of the partner's number,
+/// The sites of paramodulation from the given clause into the usable clauses, in rising order of the partner's number,
 /// of the equation, with the left side before the right, of the literal and of the path, a path before those that
-/// extend it (`AreParaIntoSites`): the first ones, at most as many as the limit. The numbers of the usable clauses have
-/// to rise. Where the given clause is among them it is its own partner too.
-pub fn para_into_sites(
+/// extend it (`AreParaFromSites`): the first ones, at most as many as the limit. The usable clauses may stand in any
+/// order, but their numbers have to differ. Where the given clause is among them it is its own partner too.
+pub fn para_from_sites(
     alloc: Global,
     given: &Numbered,
     usable: &Items<Numbered>,
     limit: u32,
 ) -> Mem<Items<ParaSite>>
-    requires rising { AllPairs (λ p q. p.number < q.number) usable.now }
+    requires differ { AllPairs (λ p q. p.number ≢ q.number) usable.now }
     requires given { IsKept given.now.clause }
     requires kept { All (λ p. IsKept p.clause) usable.now }
-    ensures { IfOk result (λ sites. AreParaIntoSites given.now usable.now limit sites) }
+    ensures { IfOk result (λ sites. AreParaFromSites given.now usable.now limit sites) }
+{
+    let ordered = by_number(alloc, usable.as_slice())?;
+    from_sites_in_order(alloc, given, ordered.as_slice(), limit)
+}
+
+/// `para_into_sites` from partners in rising order of their numbers.
+fn into_sites_in_order(
+    alloc: Global,
+    given: &Numbered,
+    partners: &[&Numbered],
+    limit: u32,
+) -> Mem<Items<ParaSite>>
+    requires rising { AllPairs (λ p q. p.number < q.number) (seen partners.now) }
+    requires given { IsKept given.now.clause }
+    requires kept { All (λ p. IsKept p.clause) (seen partners.now) }
+    ensures { IfOk result (λ sites. AreParaIntoSites given.now (seen partners.now) limit sites) }
 {
     let mut sites = Items::new(alloc);
-    for from in usable.as_slice() {
+    for from in partners {
         if sites.len() >= limit as usize {
             return Ok(sites);
         }
         add_with_pair(alloc, from, given, limit as usize, &mut sites)?;
     }
     Ok(sites)
+}
+
+/// The sites of paramodulation into the given clause from the usable clauses, in rising order of the partner's number,
+/// of the equation, with the left side before the right, of the literal and of the path, a path before those that
+/// extend it (`AreParaIntoSites`): the first ones, at most as many as the limit. The usable clauses may stand in any
+/// order, but their numbers have to differ. Where the given clause is among them it is its own partner too.
+pub fn para_into_sites(
+    alloc: Global,
+    given: &Numbered,
+    usable: &Items<Numbered>,
+    limit: u32,
+) -> Mem<Items<ParaSite>>
+    requires differ { AllPairs (λ p q. p.number ≢ q.number) usable.now }
+    requires given { IsKept given.now.clause }
+    requires kept { All (λ p. IsKept p.clause) usable.now }
+    ensures { IfOk result (λ sites. AreParaIntoSites given.now usable.now limit sites) }
+{
+    let ordered = by_number(alloc, usable.as_slice())?;
+    into_sites_in_order(alloc, given, ordered.as_slice(), limit)
 }

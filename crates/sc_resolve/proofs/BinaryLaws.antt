@@ -1,6 +1,6 @@
 -- The sites that the loops of binary resolution find are its sites.
 use Rattle.std.proofs.Common.{◌≡◌, ◌∙◌, sym, ap, subst, refl, ℕ, ◌+◌, ◌-◌, ◌<◌, inl, inr, List, [], ◌∷◌, ◌++◌, length, map, Some, not, false, slice_get, get_or, arith}
-use Rattle.std.specs.Prelude.{AllPairs}
+use Rattle.std.specs.Prelude.{AllPairs, Contains}
 use Rattle.std.proofs.lemmas.Option.{slice_get_within, get_or_from_slice_get}
 use Rattle.std.specs.List.{list_any}
 use Rattle.sc_data.specs.declared.Term.{Var}
@@ -18,10 +18,12 @@ use Rattle.sc_rules.specs.Resolution.{IsBinary, binary_numbers, AreBinarySites}
 use Rattle.sc_rules.proofs.PairLaws.{opposite_one}
 use Rattle.sc_rules.proofs.StepLaws.{same_some}
 use Rattle.sc_rules.proofs.FactorExample.{one_pair}
+use Rattle.sc_resolve.specs.ByNumber.{AreByNumber}
 use Rattle.sc_resolve.specs.Extending.{Extends, Below}
 use Rattle.sc_resolve.specs.Literals.{pair_of, may_resolve, AreResolvable}
 use Rattle.sc_resolve.specs.Binary.{IsWithLiteral, IsWithClause, IsWithPartner, renamed}
 use Rattle.sc_resolve.proofs.Extending.{Rising, same, one, nothing}
+use Rattle.sc_resolve.proofs.OrderLaws.{first_by_number}
 use Rattle.sc_resolve.proofs.LiteralLaws.{numbered_next, numbered_place, contains_at, at_contains, apart_two, no_pair}
 
 -- ---- order
@@ -106,6 +108,19 @@ are_sites given usable limit sites h =
     let all = same binary_numbers limit (Below (IsWithPartner given usable) (length usable)) (IsSite given usable) [] sites h (is_site given usable) (is_found given usable) in
     let room : limit - 0 ≡ limit = omega arith in
     subst (AreBinarySites given usable limit) (sym all.grown) (subst (λ n. AreBinarySites given usable n all.found) room all.first)
+
+-- ---- the same clauses in another order
+
+with_more : (given : Numbered) (ps qs : List Numbered) → ((p : Numbered) → Contains ps p → Contains qs p) → (x : BinarySite) → IsSite given ps x → IsSite given qs x
+with_more given ps qs more x (i, h) = (
+  i,
+  record { partner = h.partner; listed = more h.partner h.listed; named = h.named; parents = h.parents; pairs = h.pairs; signs = h.signs; unify = h.unify; ending = h.ending },
+)
+
+-- the sites with partners in the order of their numbers are those with the usable clauses
+pub sites_by_number : (given : Numbered) (usable ordered : List Numbered) (limit : ℕ) (sites : List BinarySite)
+    → AreByNumber usable ordered → AreBinarySites given ordered limit sites → AreBinarySites given usable limit sites
+sites_by_number given usable ordered limit sites h first = first_by_number binary_numbers (IsSite given) usable ordered limit sites (with_more given) h first
 
 -- ---- one place more
 

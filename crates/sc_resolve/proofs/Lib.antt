@@ -1,4 +1,5 @@
 pub mod KeptLaws
+pub mod OrderLaws
 pub mod Extending
 pub mod LiteralLaws
 pub mod BinaryLaws

@@ -1,4 +1,5 @@
 pub mod Kept
+pub mod ByNumber
 pub mod Extending
 pub mod Literals
 pub mod Binary

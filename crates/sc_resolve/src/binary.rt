@@ -1,14 +1,16 @@
 //! The sites of binary resolution.
 
-ghost use Rattle.std.specs.Prelude.{◌≡◌, ◌<◌, ◌≤◌, ◌+◌, ◌^◌, length, IfOk, OnOk, All, AllPairs};
+ghost use Rattle.std.specs.Prelude.{◌≡◌, ◌≢◌, ◌<◌, ◌≤◌, ◌+◌, ◌^◌, length, IfOk, OnOk, All, AllPairs};
 ghost use Rattle.sc_data.specs.Clause.{width};
 ghost use Rattle.sc_data.specs.JointInstance.{shift};
 ghost use Rattle.sc_rules.specs.Resolution.{AreBinarySites, binary_numbers};
 ghost use Rattle.sc_resolve.specs.Kept.{IsKept};
+ghost use Rattle.sc_resolve.specs.ByNumber.{seen};
 ghost use Rattle.sc_resolve.specs.Extending.{Extends, Below};
 ghost use Rattle.sc_resolve.specs.Binary.{IsWithLiteral, IsWithClause, IsWithPartner};
 
 use crate::literals::{are_resolvable, may_resolve_any};
+use crate::order::by_number;
 use sc_data::{Literal, Numbered};
 use sc_rules::BinarySite;
 use sc_term::{Mem, shift, width};
@@ -102,27 +104,43 @@ fn add_with_partner(
     )
 }
 
-/// The sites of binary resolution of the given clause with the usable clauses, in rising order of the partner's
-/// number, of the given clause's literal and of the partner's literal (`AreBinarySites`): the first ones, at most as
-/// many as the limit. The numbers of the usable clauses have to rise. Where the given clause is among them it is its
-/// own partner too.
-pub fn binary_sites(
+/// `binary_sites` with partners in rising order of their numbers.
+fn sites_in_order(
     alloc: Global,
     given: &Numbered,
-    usable: &Items<Numbered>,
+    partners: &[&Numbered],
     limit: u32,
 ) -> Mem<Items<BinarySite>>
-    requires rising { AllPairs (λ p q. p.number < q.number) usable.now }
+    requires rising { AllPairs (λ p q. p.number < q.number) (seen partners.now) }
     requires given { IsKept given.now.clause }
-    requires kept { All (λ p. IsKept p.clause) usable.now }
-    ensures { IfOk result (λ sites. AreBinarySites given.now usable.now limit sites) }
+    requires kept { All (λ p. IsKept p.clause) (seen partners.now) }
+    ensures { IfOk result (λ sites. AreBinarySites given.now (seen partners.now) limit sites) }
 {
     let mut sites = Items::new(alloc);
-    for partner in usable.as_slice() {
+    for partner in partners {
         if sites.len() >= limit as usize {
             return Ok(sites);
         }
         add_with_partner(alloc, given, partner, limit as usize, &mut sites)?;
     }
     Ok(sites)
+}
+
+/// The sites of binary resolution of the given clause with the usable clauses, in rising order of the partner's
+/// number, of the given clause's literal and of the partner's literal (`AreBinarySites`): the first ones, at most as
+/// many as the limit. The usable clauses may stand in any order, but their numbers have to differ. Where the given
+/// clause is among them it is its own partner too.
+pub fn binary_sites(
+    alloc: Global,
+    given: &Numbered,
+    usable: &Items<Numbered>,
+    limit: u32,
+) -> Mem<Items<BinarySite>>
+    requires differ { AllPairs (λ p q. p.number ≢ q.number) usable.now }
+    requires given { IsKept given.now.clause }
+    requires kept { All (λ p. IsKept p.clause) usable.now }
+    ensures { IfOk result (λ sites. AreBinarySites given.now usable.now limit sites) }
+{
+    let ordered = by_number(alloc, usable.as_slice())?;
+    sites_in_order(alloc, given, ordered.as_slice(), limit)
 }

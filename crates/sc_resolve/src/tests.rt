@@ -80,10 +80,11 @@ fn sites_are_found(
     requires kept_second { IsKept given.clause }
     requires kept_third { IsKept three.clause }
 {
+    // The order doesn't matter: these are in no rising order.
     let mut usable = Items::new(alloc);
+    usable.push(three)?;
     usable.push(one)?;
     usable.push(given)?;
-    usable.push(three)?;
     let sites = binary_sites(alloc, own, &usable, 9)?;
     Ok(sites.len() == 2 && is_site(&sites, 0, (1, 1, 1)) && is_site(&sites, 1, (3, 2, 1)))
 }
