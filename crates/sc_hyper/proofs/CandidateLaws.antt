@@ -106,7 +106,7 @@ not_single c h e = let bad : true ≡ false = sym (eq-eqb (length c.literals) 1 
 
 -- ---- widths
 
-from_start : (a : ℕ) (ns : List ℕ) → fold max a ns ≡ max a (largest ns)
+pub from_start : (a : ℕ) (ns : List ℕ) → fold max a ns ≡ max a (largest ns)
 from_start a [] = omega arith
 from_start a (n ∷ ns) = omega (arith, from_start (max a n) ns, from_start (max 0 n) ns)
 

@@ -125,11 +125,11 @@ at_seam [] rest x = refl
 at_seam (y ∷ front) rest x = at_seam front rest x
 
 -- the literal of the next parent
-right_there : (parents front rest : List Clause) (c : Clause) (k lit : ℕ) → parents ≡ front ++ c ∷ rest → k ≡ length front + 1 → literal_at parents (record { parent = k; lit = lit }) ≡ numbered c.literals lit
+pub right_there : (parents front rest : List Clause) (c : Clause) (k lit : ℕ) → parents ≡ front ++ c ∷ rest → k ≡ length front + 1 → literal_at parents (record { parent = k; lit = lit }) ≡ numbered c.literals lit
 right_there parents front rest c k lit e long =
     ap (λ (d : Option Clause). literal_in d lit) (ap (numbered parents) long ∙ ap (λ (cs : List Clause). numbered cs (length front + 1)) e ∙ numbered_next (front ++ c ∷ rest) (length front) ∙ at_seam front rest c)
 
-behind : (parents front rest : List Clause) (c : Clause) → parents ≡ front ++ c ∷ rest → parents ≡ (front ++ c ∷ []) ++ rest
+pub behind : (parents front rest : List Clause) (c : Clause) → parents ≡ front ++ c ∷ rest → parents ≡ (front ++ c ∷ []) ++ rest
 behind parents front rest c e = e ∙ sym (append_assoc front (c ∷ []) rest)
 
 abbrev AreLeft : List Clause → List ℕ → List Literal → Type 0
@@ -208,7 +208,7 @@ made Fits usable parents front low k (q ∷ picks) (d ∷ es) (n ∷ ns) (l ∷ 
         pick : ℕ → ℕ → Pick
         pick m n = record { number = m; lit = n }
 
-hyper_signs : (usable : List Numbered) (low : ℕ) (cs : List Candidate) (es : List Numbered) (ns : List ℕ) (ls : List Literal) → AllZip (IsOf IsPositive usable) cs es → AllZip IsNegative ns ls
+pub hyper_signs : (usable : List Numbered) (low : ℕ) (cs : List Candidate) (es : List Numbered) (ns : List ℕ) (ls : List Literal) → AllZip (IsOf IsPositive usable) cs es → AllZip IsNegative ns ls
     → HaveOppositeSigns (pairs_of low ls cs)
 hyper_signs usable low cs es ns [] of negative = λ k d less. absurd (omega arith)
 hyper_signs usable low [] es ns (l ∷ ls) of negative = λ k d less. absurd (omega arith)

@@ -4,3 +4,9 @@ pub mod CandidateLaws
 pub mod ChoosingLaws
 pub mod HyperLaws
 pub mod UrLaws
+pub mod ListPieces
+pub mod NamedLaws
+pub mod PairingLaws
+pub mod OpeningLaws
+pub mod StepsLaws
+pub mod ConclusionLaws

@@ -19,7 +19,7 @@ use sqlite_items::Items;
 use std::alloc::Global;
 
 /// The numbers of the clauses.
-fn numbers(alloc: Global, picks: &[Pick]) -> Mem<Items<u32>>
+pub fn numbers(alloc: Global, picks: &[Pick]) -> Mem<Items<u32>>
     ensures { IfOk result (λ ns. ns ≡ map (λ (p : APick). p.number) picks.now) }
 {
     let mut numbers = Items::new(alloc);
