@@ -20,7 +20,7 @@
 //! together are 2^32 or more counts as that. Without demodulators the lists alone are the book at the start
 //! (`proofs/StartedLaws`); they are ready for a clause again after `process_lines` and `give` (`proofs/StaysReady`), as
 //! merging and the canonical form stay within the limits (`proofs/WithinLaws`). Clauses are scanned where they stand, each
-//! at most once a scan, and at the start in pairs.
+//! at most once a scan, and at the start in pairs. The tests read their problems by sc_input, which nothing else here uses.
 #![tactic(auto)]
 
 mod adding;
@@ -58,3 +58,6 @@ pub use simplify::simplify_lines;
 pub use start::{Started, start_lists};
 pub use sweep::{leave_out, note_subsumed};
 pub use units::conflict;
+
+#[cfg(test)]
+mod tests;
