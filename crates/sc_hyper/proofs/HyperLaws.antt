@@ -24,14 +24,17 @@ use Rattle.sc_rules.specs.Inference.{Inference, Resolving}
 use Rattle.sc_rules.specs.Hyperresolution.{IsHyper, IsPositive, AreNamed, AreHyperSites, hyper_numbers, picked_numbers, picked_literals}
 use Rattle.sc_rules.proofs.OrderLaws.{in_order_is_one}
 use Rattle.sc_rules.proofs.StepLaws.{same_some}
+use Rattle.sc_resolve.specs.ByNumber.{AreByNumber}
 use Rattle.sc_resolve.specs.Extending.{Extends, Below}
 use Rattle.sc_resolve.proofs.Extending.{Rising, same, nothing}
 use Rattle.sc_resolve.proofs.LiteralLaws.{numbered_next, numbered_place, contains_at, at_contains}
+use Rattle.sc_resolve.proofs.OrderLaws.{first_by_number}
 use Rattle.sc_resolve.proofs.PartLaws.{numbered_map}
 use Rattle.sc_hyper.specs.declared.candidates.Candidate.{Candidate}
 use Rattle.sc_hyper.specs.Negatives.{AreLiteralsAt, ArePicked, IsNegative}
 use Rattle.sc_hyper.specs.Candidates.{IsCandidate, AreCandidates}
 use Rattle.sc_hyper.specs.Choosing.{pick_of, pair_with, pairs_of, Completes, IsWithNucleus, IsWithUsable}
+use Rattle.sc_hyper.proofs.ListPieces.{zip_so}
 use Rattle.sc_hyper.proofs.CandidateLaws.{candidate_of}
 
 -- ---- the negative literals
@@ -352,3 +355,32 @@ module _ (given : ℕ) (candidates : List Candidate) (limit : ℕ) where
   pub no_nucleus : (p : Numbered) (ns : List ℕ) (ls : List Literal) → ArePicked IsNegative p.clause ns ls → ls ≡ [] → (xs : List HyperSite) → Extends hyper_numbers (IsWithNucleus given candidates p) limit xs xs
   no_nucleus p ns ls negative none xs =
       nothing hyper_numbers limit (IsWithNucleus given candidates p) xs (λ x b. b.some (picked_are_one IsNegative p.clause b.numbers ns b.literals ls b.negative negative ∙ none))
+
+-- ---- usable clauses in another order
+
+pub named_more : (us vs : List Numbered) (ns : List ℕ) (ps : List Numbered) → ((p : Numbered) → Contains us p → Contains vs p) → AreNamed us ns ps → AreNamed vs ns ps
+named_more us vs ns ps more h = zip_so (λ n p. (p.number ≡ n) × Contains us p) (λ n p. (p.number ≡ n) × Contains vs p) ns ps (λ n p one. (one.0, more p one.1)) h
+
+hyper_more : (given : Numbered) (us vs : List Numbered) → ((p : Numbered) → Contains us p → Contains vs p) → (x : HyperSite) → IsSite given us x → IsSite given vs x
+hyper_more given us vs more x (i, h) = (
+  i,
+  record {
+    nucleus = h.nucleus;
+    electrons = h.electrons;
+    nucleus_named = named_more us vs (x.nucleus ∷ []) (h.nucleus ∷ []) more h.nucleus_named;
+    electrons_named = named_more us vs (picked_numbers x) h.electrons more h.electrons_named;
+    electrons_positive = h.electrons_positive;
+    has_given = h.has_given;
+    parents = h.parents;
+    negative = h.negative;
+    are_negative = h.are_negative;
+    some_negative = h.some_negative;
+    pairs = h.pairs;
+    unify = h.unify;
+    ending = h.ending;
+  },
+)
+
+-- the sites over the usable clauses in the order of their numbers are those over the usable clauses
+pub hyper_by_number : (given : Numbered) (usable ordered : List Numbered) (limit : ℕ) (sites : List HyperSite) → AreByNumber usable ordered → AreHyperSites given ordered limit sites → AreHyperSites given usable limit sites
+hyper_by_number given usable ordered limit sites h first = first_by_number hyper_numbers (IsSite given) usable ordered limit sites (hyper_more given) h first

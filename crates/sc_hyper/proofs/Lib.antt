@@ -1,10 +1,10 @@
+pub mod ListPieces
 pub mod ExtendingLaws
 pub mod NegativeLaws
 pub mod CandidateLaws
 pub mod ChoosingLaws
 pub mod HyperLaws
 pub mod UrLaws
-pub mod ListPieces
 pub mod NamedLaws
 pub mod PairingLaws
 pub mod OpeningLaws

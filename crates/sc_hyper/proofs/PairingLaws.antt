@@ -1,5 +1,5 @@
 -- The pairs of literals of several parents, and the terms of all parents.
-use Rattle.std.proofs.Common.{◌≡◌, ◌∙◌, sym, ap, subst, refl, ℕ, zero, suc, ◌+◌, ◌*◌, ◌<◌, ◌≤◌, max, fold, List, [], ◌∷◌, ◌++◌, append_assoc, append-nil, length, map, take, drop, Some, None, Option, slice_get, arith}
+use Rattle.std.proofs.Common.{◌≡◌, ◌∙◌, sym, ap, subst, refl, ℕ, zero, suc, ◌+◌, ◌*◌, ◌≤◌, max, List, [], ◌∷◌, ◌++◌, append_assoc, append-nil, length, map, take, drop, Some, None, Option, slice_get, arith}
 use Rattle.std.specs.Prelude.{MatchOption}
 use Rattle.std.specs.List.{All}
 use Rattle.std.proofs.lemmas.Option.{slice_get_within}

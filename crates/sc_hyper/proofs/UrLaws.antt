@@ -24,8 +24,10 @@ use Rattle.sc_rules.specs.Inference.{Inference, Resolving}
 use Rattle.sc_rules.specs.Hyperresolution.{IsUr, AreNamed, AreLiteralsWith, AreUrSites, hyper_numbers, ur_numbers, picked_numbers, unit_literals}
 use Rattle.sc_rules.proofs.OrderLaws.{at_first, later, first_before, tail_pairs}
 use Rattle.sc_rules.proofs.StepLaws.{same_some}
+use Rattle.sc_resolve.specs.ByNumber.{AreByNumber}
 use Rattle.sc_resolve.specs.Extending.{Extends, Below}
 use Rattle.sc_resolve.proofs.Extending.{Rising, same, nothing}
+use Rattle.sc_resolve.proofs.OrderLaws.{first_by_number}
 use Rattle.sc_resolve.proofs.LiteralLaws.{numbered_next, numbered_place, contains_at, at_contains, some_at}
 use Rattle.sc_hyper.specs.declared.candidates.Candidate.{Candidate}
 use Rattle.sc_hyper.specs.Negatives.{ArePicked, IsOther}
@@ -33,7 +35,7 @@ use Rattle.sc_hyper.specs.Candidates.{IsCandidate, AreCandidates, IsSingle, IsFi
 use Rattle.sc_hyper.specs.Choosing.{pick_of, pairs_of, Completes}
 use Rattle.sc_hyper.specs.Ur.{ur_of, IsWithTarget, IsWithTargetAt, IsWithTargets, IsWithUrUsable}
 use Rattle.sc_hyper.proofs.ChoosingLaws.{numbers_of}
-use Rattle.sc_hyper.proofs.HyperLaws.{picked_are_one, literals_at, electrons_of, are_named, all_cons, are_fit, candidates_of, pairs_there, made, clauses, parents_of, parents_so, left_so}
+use Rattle.sc_hyper.proofs.HyperLaws.{picked_are_one, named_more, literals_at, electrons_of, are_named, all_cons, are_fit, candidates_of, pairs_there, made, clauses, parents_of, parents_so, left_so}
 
 -- ---- first things, mapped
 
@@ -293,3 +295,32 @@ module _ (given : Numbered) (usable : List Numbered) (units : List Candidate) (a
       let all = same ur_numbers limit Found (IsSite given usable) [] sites h is_site is_found in
       let room : limit - 0 ≡ limit = omega arith in
       subst (AreUrSites given usable limit) (sym all.grown) (subst (λ n. AreUrSites given usable n all.found) room all.first)
+
+-- ---- usable clauses in another order
+
+ur_more : (given : Numbered) (us vs : List Numbered) → ((p : Numbered) → Contains us p → Contains vs p) → (x : UrSite) → (i : Inference) × IsUr given us x i → (i : Inference) × IsUr given vs x i
+ur_more given us vs more x (i, h) = (
+  i,
+  record {
+    nucleus = h.nucleus;
+    units = h.units;
+    nucleus_named = named_more us vs (x.nucleus ∷ []) (h.nucleus ∷ []) more h.nucleus_named;
+    nucleus_long = h.nucleus_long;
+    units_named = named_more us vs x.units h.units more h.units_named;
+    units_single = h.units_single;
+    has_given = h.has_given;
+    target_there = h.target_there;
+    parents = h.parents;
+    others = h.others;
+    are_others = h.are_others;
+    pairs = h.pairs;
+    signs = h.signs;
+    unify = h.unify;
+    ending = h.ending;
+  },
+)
+
+-- the sites over the usable clauses in the order of their numbers are those over the usable clauses
+pub ur_by_number : (given : Numbered) (usable ordered : List Numbered) (limit : ℕ) (sites : List UrSite) → AreByNumber usable ordered → AreUrSites given ordered limit sites → AreUrSites given usable limit sites
+ur_by_number given usable ordered limit sites h first =
+    first_by_number ur_numbers (λ (us : List Numbered) (x : UrSite). (i : Inference) × IsUr given us x i) usable ordered limit sites (ur_more given) h first

@@ -3,6 +3,7 @@
 ghost use Rattle.std.specs.Prelude.{◌≡◌, ◌<◌, ◌≤◌, ◌+◌, nat_eq, length, IfOk, OnOk, All, AllPairs};
 ghost use Rattle.std.specs.List.{list_all};
 ghost use Rattle.sc_rules.specs.Hyperresolution.{IsPositive};
+ghost use Rattle.sc_resolve.specs.ByNumber.{seen};
 ghost use Rattle.sc_resolve.specs.Extending.{Extends, Below};
 ghost use Rattle.sc_resolve.specs.Kept.{IsKept};
 ghost use Rattle.sc_hyper.specs.Candidates.{candidate_numbers, IsOfElectron, IsSingle, AreCandidates};
@@ -59,10 +60,10 @@ fn add_of_electron(alloc: Global, electron: &Numbered, found: &mut Items<Candida
 }
 
 /// The literals of all positive clauses, in order.
-pub fn candidates(alloc: Global, usable: &[Numbered]) -> Mem<Items<Candidate>>
-    requires rising { AllPairs (λ p q. p.number < q.number) usable.now }
-    requires kept { All (λ p. IsKept p.clause) usable.now }
-    ensures { IfOk result (λ found. AreCandidates IsPositive usable.now found) }
+pub fn candidates(alloc: Global, usable: &[&Numbered]) -> Mem<Items<Candidate>>
+    requires rising { AllPairs (λ p q. p.number < q.number) (seen usable.now) }
+    requires kept { All (λ p. IsKept p.clause) (seen usable.now) }
+    ensures { IfOk result (λ found. AreCandidates IsPositive (seen usable.now) found) }
 {
     let mut found = Items::new(alloc);
     for electron in usable {
@@ -74,10 +75,10 @@ pub fn candidates(alloc: Global, usable: &[Numbered]) -> Mem<Items<Candidate>>
 }
 
 /// The literals of all unit clauses, in order.
-pub fn units(alloc: Global, usable: &[Numbered]) -> Mem<Items<Candidate>>
-    requires rising { AllPairs (λ p q. p.number < q.number) usable.now }
-    requires kept { All (λ p. IsKept p.clause) usable.now }
-    ensures { IfOk result (λ found. AreCandidates IsSingle usable.now found) }
+pub fn units(alloc: Global, usable: &[&Numbered]) -> Mem<Items<Candidate>>
+    requires rising { AllPairs (λ p q. p.number < q.number) (seen usable.now) }
+    requires kept { All (λ p. IsKept p.clause) (seen usable.now) }
+    ensures { IfOk result (λ found. AreCandidates IsSingle (seen usable.now) found) }
 {
     let mut found = Items::new(alloc);
     for electron in usable {

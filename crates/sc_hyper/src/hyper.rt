@@ -1,7 +1,8 @@
 //! The sites of hyperresolution.
 
-ghost use Rattle.std.specs.Prelude.{◌≡◌, ◌<◌, ◌≤◌, [], length, IfOk, OnOk, All, AllPairs};
+ghost use Rattle.std.specs.Prelude.{◌≡◌, ◌≢◌, ◌<◌, ◌≤◌, [], length, IfOk, OnOk, All, AllPairs};
 ghost use Rattle.sc_rules.specs.Hyperresolution.{AreHyperSites, hyper_numbers};
+ghost use Rattle.sc_resolve.specs.ByNumber.{seen};
 ghost use Rattle.sc_resolve.specs.Kept.{IsKept};
 ghost use Rattle.sc_resolve.specs.Extending.{Extends, Below};
 ghost use Rattle.sc_hyper.specs.Candidates.{IsNarrow, DoRise};
@@ -12,6 +13,7 @@ use crate::choice::Choice;
 use crate::choosing::choose;
 use crate::negatives::negative_literals;
 use sc_data::Numbered;
+use sc_resolve::by_number;
 use sc_rules::HyperSite;
 use sc_term::{Mem, width};
 use sqlite_items::Items;
@@ -56,16 +58,16 @@ fn add_with_nucleus(
 /// The first sites of all nuclei, at most as many as the limit.
 fn sites_with(
     alloc: Global,
-    usable: &[Numbered],
+    usable: &[&Numbered],
     given: u32,
     candidates: &[Candidate],
     limit: usize,
 ) -> Mem<Items<HyperSite>>
-    requires numbers { AllPairs (λ p q. p.number < q.number) usable.now }
-    requires kept { All (λ p. IsKept p.clause) usable.now }
+    requires numbers { AllPairs (λ p q. p.number < q.number) (seen usable.now) }
+    requires kept { All (λ p. IsKept p.clause) (seen usable.now) }
     requires narrow { All IsNarrow candidates.now }
     requires rising { DoRise candidates.now }
-    ensures { IfOk result (λ sites. Extends hyper_numbers (Below (IsWithUsable given candidates.now usable.now) (length usable.now)) limit [] sites) }
+    ensures { IfOk result (λ sites. Extends hyper_numbers (Below (IsWithUsable given candidates.now (seen usable.now)) (length (seen usable.now))) limit [] sites) }
 {
     let mut sites = Items::new(alloc);
     for nucleus in usable {
@@ -77,25 +79,40 @@ fn sites_with(
     Ok(sites)
 }
 
+/// `hyper_sites` with the usable clauses in rising order of their numbers.
+fn sites_in_order(
+    alloc: Global,
+    given: &Numbered,
+    usable: &[&Numbered],
+    limit: u32,
+) -> Mem<Items<HyperSite>>
+    requires rising { AllPairs (λ p q. p.number < q.number) (seen usable.now) }
+    requires kept { All (λ p. IsKept p.clause) (seen usable.now) }
+    ensures { IfOk result (λ sites. AreHyperSites given.now (seen usable.now) limit sites) }
+{
+    let found = candidates(alloc, usable)?;
+    sites_with(
+        alloc,
+        usable,
+        given.number,
+        found.as_slice(),
+        limit as usize,
+    )
+}
+
 /// The sites of hyperresolution of the given clause with the usable clauses, in rising order of the numbers of the
 /// nucleus, of the first electron, of its literal, of the second electron, and so on (`AreHyperSites`): the first ones,
-/// at most as many as the limit. The numbers of the usable clauses have to rise.
+/// at most as many as the limit. The usable clauses may stand in any order, but their numbers have to differ.
 pub fn hyper_sites(
     alloc: Global,
     given: &Numbered,
     usable: &Items<Numbered>,
     limit: u32,
 ) -> Mem<Items<HyperSite>>
-    requires rising { AllPairs (λ p q. p.number < q.number) usable.now }
+    requires differ { AllPairs (λ p q. p.number ≢ q.number) usable.now }
     requires kept { All (λ p. IsKept p.clause) usable.now }
     ensures { IfOk result (λ sites. AreHyperSites given.now usable.now limit sites) }
 {
-    let found = candidates(alloc, usable.as_slice())?;
-    sites_with(
-        alloc,
-        usable.as_slice(),
-        given.number,
-        found.as_slice(),
-        limit as usize,
-    )
+    let ordered = by_number(alloc, usable.as_slice())?;
+    sites_in_order(alloc, given, ordered.as_slice(), limit)
 }

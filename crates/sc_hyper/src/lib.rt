@@ -10,8 +10,8 @@
 //! signs aren't opposite or that doesn't unify; at the last literal they try only what brings the given clause in, where
 //! it is missing. `make_hyper` and `make_ur` answer the conclusion of a site with its one derivation, and None exactly
 //! where the site has no conclusion, which is where the joint instance is outside the limits. Usable clauses have to be
-//! canonical and within the limits (`IsKept`); for the sites in rising order of their numbers, for the conclusions with
-//! numbers that differ. Want of memory is the one other answer.
+//! canonical and within the limits (`IsKept`), with numbers that differ; they may stand in any order. Want of memory is
+//! the one other answer.
 #![tactic(auto)]
 
 mod candidates;

@@ -1,4 +1,4 @@
-ghost use Rattle.std.specs.Prelude.{◌≡◌, ◌≢◌, ◌<◌, All, AllPairs, IfOk, IfSome};
+ghost use Rattle.std.specs.Prelude.{◌≢◌, All, AllPairs, IfOk, IfSome};
 ghost use Rattle.sc_resolve.specs.Kept.{IsKept};
 
 use crate::{hyper_sites, make_hyper, make_ur, ur_sites};
@@ -197,7 +197,6 @@ fn clauses_are_right(alloc: Global, lines: &Items<Line>) -> Mem<bool> {
 /// Whether the sites of the given clause, 3, are those worked out, and the second gives `r(a,b)` with its lines.
 fn hyper_is_right(alloc: Global, given: &Numbered, usable: &Items<Numbered>) -> Mem<bool>
     requires kept { All (λ p. IsKept p.clause) usable.now }
-    requires rising { AllPairs (λ p q. p.number < q.number) usable.now }
     requires differ { AllPairs (λ p q. p.number ≢ q.number) usable.now }
 {
     let sites = hyper_sites(alloc, given, usable, 9)?;
@@ -226,7 +225,6 @@ fn is_ur_site(site: &UrSite) -> bool {
 /// Whether the given clause, 3, has the one site worked out, which gives `q(a)`.
 fn ur_is_right(alloc: Global, given: &Numbered, usable: &Items<Numbered>) -> Mem<bool>
     requires kept { All (λ p. IsKept p.clause) usable.now }
-    requires rising { AllPairs (λ p q. p.number < q.number) usable.now }
     requires differ { AllPairs (λ p q. p.number ≢ q.number) usable.now }
 {
     let sites = ur_sites(alloc, given, usable, 9)?;
@@ -245,7 +243,6 @@ fn ur_is_right(alloc: Global, given: &Numbered, usable: &Items<Numbered>) -> Mem
 /// The three clauses under the numbers 1, 2 and 3, or None where one isn't canonical.
 fn usable(alloc: Global, one: Clause, two: Clause, three: Clause) -> Mem<Option<Items<Numbered>>>
     ensures kept { IfOk result (λ found. IfSome found (λ usable. All (λ p. IsKept p.clause) usable)) }
-    ensures rising { IfOk result (λ found. IfSome found (λ usable. AllPairs (λ p q. p.number < q.number) usable)) }
     ensures differ { IfOk result (λ found. IfSome found (λ usable. AllPairs (λ p q. p.number ≢ q.number) usable)) }
 {
     if !is_kept(alloc, &one)? {

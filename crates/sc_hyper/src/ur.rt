@@ -1,8 +1,9 @@
 //! The sites of UR-resolution.
 
-ghost use Rattle.std.specs.Prelude.{◌≡◌, ◌<◌, ◌≤◌, ◌++◌, map, [], length, IfOk, OnOk, All, AllPairs};
+ghost use Rattle.std.specs.Prelude.{◌≡◌, ◌≢◌, ◌<◌, ◌≤◌, ◌++◌, map, [], length, IfOk, OnOk, All, AllPairs};
 ghost use Rattle.sc_rules.specs.declared.site.Pick.{Pick as APick};
 ghost use Rattle.sc_rules.specs.Hyperresolution.{AreUrSites, ur_numbers};
+ghost use Rattle.sc_resolve.specs.ByNumber.{seen};
 ghost use Rattle.sc_resolve.specs.Kept.{IsKept};
 ghost use Rattle.sc_resolve.specs.Extending.{Extends, Below};
 ghost use Rattle.sc_hyper.specs.Candidates.{IsNarrow, IsFirst, DoRise};
@@ -13,6 +14,7 @@ use crate::choice::Choice;
 use crate::choosing::choose;
 use crate::negatives::other_literals;
 use sc_data::Numbered;
+use sc_resolve::by_number;
 use sc_rules::{HyperSite, Pick, UrSite};
 use sc_term::{Mem, width};
 use sqlite_items::Items;
@@ -124,17 +126,17 @@ fn add_with_targets(
 /// The first sites of all nuclei, at most as many as the limit.
 fn ur_sites_with(
     alloc: Global,
-    usable: &[Numbered],
+    usable: &[&Numbered],
     given: u32,
     units: &[Candidate],
     limit: usize,
 ) -> Mem<Items<UrSite>>
-    requires numbers { AllPairs (λ p q. p.number < q.number) usable.now }
-    requires kept { All (λ p. IsKept p.clause) usable.now }
+    requires numbers { AllPairs (λ p q. p.number < q.number) (seen usable.now) }
+    requires kept { All (λ p. IsKept p.clause) (seen usable.now) }
     requires narrow { All IsNarrow units.now }
     requires first { All IsFirst units.now }
     requires rising { DoRise units.now }
-    ensures { IfOk result (λ sites. Extends ur_numbers (Below (IsWithUrUsable given units.now usable.now) (length usable.now)) limit [] sites) }
+    ensures { IfOk result (λ sites. Extends ur_numbers (Below (IsWithUrUsable given units.now (seen usable.now)) (length (seen usable.now))) limit [] sites) }
 {
     let mut sites = Items::new(alloc);
     for nucleus in usable {
@@ -146,25 +148,40 @@ fn ur_sites_with(
     Ok(sites)
 }
 
+/// `ur_sites` with the usable clauses in rising order of their numbers.
+fn ur_sites_in_order(
+    alloc: Global,
+    given: &Numbered,
+    usable: &[&Numbered],
+    limit: u32,
+) -> Mem<Items<UrSite>>
+    requires rising { AllPairs (λ p q. p.number < q.number) (seen usable.now) }
+    requires kept { All (λ p. IsKept p.clause) (seen usable.now) }
+    ensures { IfOk result (λ sites. AreUrSites given.now (seen usable.now) limit sites) }
+{
+    let found = units(alloc, usable)?;
+    ur_sites_with(
+        alloc,
+        usable,
+        given.number,
+        found.as_slice(),
+        limit as usize,
+    )
+}
+
 /// The sites of UR-resolution of the given clause with the usable clauses, in rising order of the numbers of the
 /// nucleus, of the literal that is left, of the first unit, of the second, and so on (`AreUrSites`): the first ones, at
-/// most as many as the limit. The numbers of the usable clauses have to rise.
+/// most as many as the limit. The usable clauses may stand in any order, but their numbers have to differ.
 pub fn ur_sites(
     alloc: Global,
     given: &Numbered,
     usable: &Items<Numbered>,
     limit: u32,
 ) -> Mem<Items<UrSite>>
-    requires rising { AllPairs (λ p q. p.number < q.number) usable.now }
+    requires differ { AllPairs (λ p q. p.number ≢ q.number) usable.now }
     requires kept { All (λ p. IsKept p.clause) usable.now }
     ensures { IfOk result (λ sites. AreUrSites given.now usable.now limit sites) }
 {
-    let found = units(alloc, usable.as_slice())?;
-    ur_sites_with(
-        alloc,
-        usable.as_slice(),
-        given.number,
-        found.as_slice(),
-        limit as usize,
-    )
+    let ordered = by_number(alloc, usable.as_slice())?;
+    ur_sites_in_order(alloc, given, ordered.as_slice(), limit)
 }

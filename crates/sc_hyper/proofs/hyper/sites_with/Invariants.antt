@@ -1,8 +1,9 @@
 use Rattle.std.proofs.Common.{[]}
 use Rattle.sc_rules.specs.Hyperresolution.{hyper_numbers}
+use Rattle.sc_resolve.specs.ByNumber.{seen}
 use Rattle.sc_resolve.specs.Extending.{Extends, Below}
 use Rattle.sc_hyper.specs.Choosing.{IsWithUsable}
 use Rattle.sc_hyper.proofs.hyper.sites_with.Given as goal
 
 abbrev pub invariant-loop-nucleus : goal.invariant-loop-nucleus
-invariant-loop-nucleus l = Extends hyper_numbers (Below (IsWithUsable l.given l.candidates l.usable) l.nucleus-index) l.limit [] l.sites
+invariant-loop-nucleus l = Extends hyper_numbers (Below (IsWithUsable l.given l.candidates (seen l.usable)) l.nucleus-index) l.limit [] l.sites

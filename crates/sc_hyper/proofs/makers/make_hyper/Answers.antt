@@ -1,4 +1,4 @@
-use Rattle.std.proofs.Common.{◌≡◌, ◌∙◌, sym, ap, subst, ℕ, List, [], ◌∷◌, map, Some, None, Option, slice_get}
+use Rattle.std.proofs.Common.{◌≡◌, ◌∙◌, sym, ap, subst, ℕ, List, ◌∷◌, map, Some, None, Option, slice_get}
 use Rattle.sc_data.specs.declared.Numbered.{Numbered}
 use Rattle.sc_rules.specs.declared.site.Pick.{Pick}
 use Rattle.sc_rules.specs.Hyperresolution.{AreNamed, picked_numbers, picked_literals}

@@ -1,8 +1,7 @@
-use Rattle.std.proofs.Common.{◌≡◌, ◌≤◌, ◌+◌, ◌∙◌, sym, ap, subst, ℕ, List, [], ◌∷◌, ◌++◌, Some, slice_get, drop, length, arith}
+use Rattle.std.proofs.Common.{◌≡◌, ◌+◌, ◌∙◌, sym, ap, subst, List, [], ◌∷◌, ◌++◌, drop, length, arith}
 use Rattle.std.proofs.lemmas.Option.{slice_get_read}
 use Rattle.sc_data.specs.declared.Clause.{Clause}
 use Rattle.sc_data.specs.declared.Numbered.{Numbered}
-use Rattle.sc_data.specs.Clause.{width}
 use Rattle.sc_data.specs.JointInstance.{apart, apart_above, shift}
 use Rattle.sc_resolve.specs.Kept.{IsKept}
 use Rattle.sc_resolve.proofs.KeptLaws.{kept_width}

@@ -1,8 +1,7 @@
-use Rattle.std.proofs.Common.{◌≡◌, ◌+◌, ◌∙◌, sym, ap, List, [], ◌∷◌, ◌++◌, Some, None, Option, get_or, arith}
+use Rattle.std.proofs.Common.{◌∙◌, sym, ap, List, Some, get_or, arith}
 use Rattle.std.proofs.lemmas.Option.{slice_get-get_or}
 use Rattle.sc_data.specs.declared.Pair.{Pair}
-use Rattle.sc_rules.specs.Pairing.{literal_at}
-use Rattle.sc_hyper.proofs.PairingLaws.{place, not_short, no_pair, pairs_next, pairs_whole}
+use Rattle.sc_hyper.proofs.PairingLaws.{not_short, no_pair, pairs_next, pairs_whole}
 use Rattle.sc_hyper.proofs.pairing.pairs.Goals as goal
 
 pub returns-then-at-others : goal.returns-then-at-others

@@ -1,4 +1,4 @@
-use Rattle.std.proofs.Common.{◌≡◌, ◌∙◌, ap, sym, subst, List, length}
+use Rattle.std.proofs.Common.{◌≡◌, ◌∙◌, ap, sym, List, length}
 use Rattle.std.proofs.lemmas.Option.{MatchOption-at_some}
 use Rattle.sc_data.specs.declared.Term.{Term}
 use Rattle.sc_data.specs.Clause.{instance, IsWithinLimits}

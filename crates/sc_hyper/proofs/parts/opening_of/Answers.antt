@@ -1,16 +1,11 @@
-use Rattle.std.proofs.Common.{◌≡◌, ◌≤◌, ◌+◌, ◌∙◌, sym, ap, subst, ℕ, List, [], ◌∷◌, ◌++◌, Some, None, take, slice_get, length, arith}
+use Rattle.std.proofs.Common.{◌≡◌, ◌+◌, ◌∙◌, sym, subst, ℕ, List, take, length, arith}
 use Rattle.std.specs.Prelude.{MatchOption}
 use Rattle.std.proofs.lemmas.Option.{slice_get_read, MatchOption-at_some}
-use Rattle.sc_data.specs.declared.Term.{Term}
-use Rattle.sc_data.specs.declared.Clause.{Clause}
-use Rattle.sc_data.specs.declared.Line.{Line}
-use Rattle.sc_data.specs.declared.Numbered.{Numbered}
 use Rattle.sc_data.specs.Clause.{instance, IsWithinLimits}
 use Rattle.sc_resolve.specs.Lines.{HasPart}
 use Rattle.sc_resolve.proofs.LiteralLaws.{contains_at}
-use Rattle.sc_hyper.specs.Making.{AreTold, IsOpened}
-use Rattle.sc_hyper.proofs.ListPieces.{all_at}
-use Rattle.sc_hyper.proofs.OpeningLaws.{terms_long, many_terms, not_outside, opened_none, opened_step, opened_whole, known_step, nothing_known}
+use Rattle.sc_hyper.specs.Making.{IsOpened}
+use Rattle.sc_hyper.proofs.OpeningLaws.{terms_long, many_terms, not_outside, opened_step, opened_whole, known_step}
 use Rattle.sc_hyper.proofs.parts.opening_of.Goals as goal
 
 pub bounds-told-at : goal.bounds-told-at

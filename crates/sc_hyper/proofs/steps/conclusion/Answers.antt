@@ -1,4 +1,4 @@
-use Rattle.std.proofs.Common.{◌≡◌, ◌≤◌, ◌∙◌, sym, ap, subst, List, Some, None, Option, length, map, arith}
+use Rattle.std.proofs.Common.{sym, ap, subst, List, Option, map, arith}
 use Rattle.std.specs.Prelude.{MatchOption}
 use Rattle.sc_data.specs.declared.Term.{Term}
 use Rattle.sc_data.specs.declared.Clause.{Clause}
