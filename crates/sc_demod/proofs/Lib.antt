@@ -2,10 +2,12 @@ pub mod CountLaws
 pub mod BecomingLaws
 pub mod OrientLaws
 pub mod FitLaws
+pub mod WeightLaws
 pub mod FindLaws
 pub mod PartLaws
 pub mod LeastLaws
 pub mod CutLaws
+pub mod DeletingLaws
 pub mod ReplaceLaws
 pub mod RewriteLaws
 pub mod RewriteSteps

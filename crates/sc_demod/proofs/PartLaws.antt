@@ -1,6 +1,6 @@
 -- The lines of a clause and of its instance.
-use Rattle.std.proofs.Common.{◌≡◌, ◌∙◌, sym, ap, subst, refl, ℕ, ◌+◌, ◌-◌, ◌<◌, inl, inr, List, [], ◌∷◌, ◌++◌, append_assoc, length, length-append, get_or, take, Some, arith}
-use Rattle.std.specs.List.{AllWithin, Contains}
+use Rattle.std.proofs.Common.{◌≡◌, ◌∙◌, sym, ap, subst, ℕ, ◌+◌, ◌-◌, inl, inr, List, [], ◌∷◌, ◌++◌, append_assoc, length, length-append, take, Some, arith}
+use Rattle.std.specs.List.{Contains}
 use Rattle.std.proofs.lemmas.List.{append-nil}
 use Rattle.sc_data.specs.declared.Term.{Term}
 use Rattle.sc_data.specs.declared.Clause.{Clause}
@@ -10,33 +10,12 @@ use Rattle.sc_data.specs.declared.Step.TheVariants.{Input, Instance}
 use Rattle.sc_data.specs.Numbering.{numbered}
 use Rattle.sc_data.specs.Clause.{instance, width}
 use Rattle.sc_data.specs.Proof.{AreSteps, IsStep, IsStepAt, clause_of, Follows}
-use Rattle.sc_steps.specs.Derivation.{IsInputAt, last_clause}
-use Rattle.sc_steps.proofs.LineLaws.{number_within, some_so, map_some, clause_in_whole, clause_of_end}
+use Rattle.sc_steps.specs.Derivation.{last_clause}
+use Rattle.sc_steps.proofs.LineLaws.{number_within, map_some, clause_in_whole, clause_of_end}
 use Rattle.sc_steps.proofs.ListLaws.{some_and}
 use Rattle.sc_rules.specs.Order.{Where}
-use Rattle.sc_rules.specs.Derivation.{Adds, IsFirstInput, AddsInput, AreTermsTo, AddsPart}
+use Rattle.sc_rules.specs.Derivation.{Adds, AddsInput, AreTermsTo, AddsPart}
 use Rattle.sc_demod.specs.Standing.{Agrees, ChecksWith}
-use Rattle.sc_demod.proofs.FindLaws.{number_got, place_of}
-
--- ---- the first input line
-
-abbrev pub NotInput : ℕ → Line → Type 0
-NotInput n line = ¬ (line.step ≡ Input n)
-
-pub no_earlier_input : (lines : List Line) (n i : ℕ) → AllWithin (NotInput n) lines 0 i → (j : ℕ) → j < i + 1 → ¬ IsInputAt lines n j
-no_earlier_input lines n i none j less h =
-    let there = some_and (numbered lines j) (λ (line : Line). line.step ≡ Input n) h in
-    place_of (NotInput n) lines i j there.0 none less there.1 there.2
-
-pub first_input_at : (lines : List Line) (n i : ℕ) (line : Line) → i < length lines → line ≡ get_or lines i line → line.step ≡ Input n → AllWithin (NotInput n) lines 0 i → IsFirstInput lines n (i + 1)
-first_input_at lines n i line less at is none =
-    (some_so (numbered lines (i + 1)) (λ (line : Line). line.step ≡ Input n) line (number_got lines i line less at) is, no_earlier_input lines n i none)
-
-pub no_input_at : (lines : List Line) (n : ℕ) → AllWithin (NotInput n) lines 0 (length lines) → (j : ℕ) → ¬ IsInputAt lines n j
-no_input_at lines n none j h =
-    let there = some_and (numbered lines j) (λ (line : Line). line.step ≡ Input n) h in
-    let within = number_within lines j there.0 there.1 in
-    no_earlier_input lines n (length lines) none j (omega (arith, within.1)) h
 
 -- ---- what the lines of a part have
 
@@ -50,17 +29,6 @@ input_clause before p after k agrees (inr h) =
 pub input_extends : (before : List Line) (p : Numbered) (after : List Line) (k : ℕ) → AddsInput before p after k → (more : List Line) × (after ≡ before ++ more)
 input_extends before p after k (inl h) = ([], h.1 ∙ sym (append-nil before))
 input_extends before p after k (inr h) = (record { step = Input p.number; clause = p.clause } ∷ [], h.1)
-
--- the instance line follows
-pub adds_part : (before : List Line) (p : Numbered) (part : Clause) (terms : List Term) (mid after : List Line) (j k : ℕ) → Agrees before p → AreTermsTo p.clause part terms
-    → AddsInput before p mid j → ¬ (part ≡ p.clause) → after ≡ mid ++ record { step = Instance j terms; clause = part } ∷ [] → k ≡ length after → AddsPart before p part after k
-adds_part before p part terms mid after j k agrees are input differ grows at =
-    let follows : Follows [] mid part (Instance j terms) =
-    some_so (clause_of mid j) (λ of. (length terms ≡ width of) × (part ≡ instance terms of)) p.clause (input_clause before p mid j agrees input) (are.many, sym are.gives) in
-    (mid, j, input, inr (differ, (terms, are, (part, follows, grows), at)))
-
-pub part_whole : (before : List Line) (p : Numbered) (part : Clause) (after : List Line) (k : ℕ) → part ≡ p.clause → AddsInput before p after k → AddsPart before p part after k
-part_whole before p part after k same input = (after, k, input, inl (same, (refl, refl)))
 
 pub part_clause : (before : List Line) (p : Numbered) (part : Clause) (after : List Line) (k : ℕ) → Agrees before p → AddsPart before p part after k → clause_of after k ≡ Some part
 part_clause before p part after k agrees h = by h.3

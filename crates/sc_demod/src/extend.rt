@@ -1,6 +1,6 @@
 //! One more line.
 
-ghost use Rattle.std.specs.Prelude.{◌≡◌, ◌≤◌, ◌∷◌, [], ◌++◌, IfOk};
+ghost use Rattle.std.specs.Prelude.{◌≡◌, ◌<◌, ◌≤◌, ◌+◌, ◌-◌, ◌^◌, ◌∷◌, [], ◌++◌, length, IfOk};
 ghost use Rattle.sc_data.specs.Clause.{weight, depth};
 
 use sc_data::{Clause, Line, Step};
@@ -9,14 +9,15 @@ use sc_term::{Mem, OutOfMemory, copy};
 use sqlite_items::Items;
 use std::alloc::Global;
 
-/// The number as lines, literals and arguments have them. No memory holds a list whose length has none.
-pub fn number(n: usize) -> Mem<u32>
-    ensures { IfOk result (λ k. k ≡ n) }
+/// How many lines there are, which is the number of the last one. Where three more would make 4,294,967,295 or more,
+/// that is answered as want of memory, by design: a line's number is a u32.
+pub fn count_lines(lines: &Items<Line>) -> Mem<u32>
+    ensures { IfOk result (λ count. (count ≡ length lines.now) × (length lines.now + 3 < 2 ^ 32 - 1)) }
 {
-    if n > u32::MAX as usize {
+    if lines.len() >= u32::MAX as usize - 3 {
         return Err(OutOfMemory);
     }
-    Ok(n as u32)
+    Ok(lines.len() as u32)
 }
 
 /// The clause with the lines, and the line that has it by the step.

@@ -1,12 +1,13 @@
 //! The first redex of a clause. Nothing is listed: the walk ends at the redex, and its path is put together on the way
 //! back.
 
-ghost use Rattle.std.specs.Prelude.{◌≡◌, ◌+◌, [], IfOk, MatchOption};
+ghost use Rattle.std.specs.Prelude.{◌≡◌, ◌<◌, ◌+◌, ◌^◌, [], sum, map, IfOk, MatchOption};
+ghost use Rattle.sc_data.specs.Clause.{literal_weight};
 ghost use Rattle.sc_data.specs.Path.{IsSubtermAt};
+ghost use Rattle.sc_data.specs.Term.{term_weight};
 ghost use Rattle.sc_demod.specs.Fitting.{IsFirstFit, FitsNone};
 ghost use Rattle.sc_demod.specs.Finding.{IsWithin, FindsNone, Finds, FindsNoneIn, FindsIn};
 
-use crate::extend::number;
 use crate::fit::first_fit;
 use sc_data::{Literal, Numbered, Term};
 use sc_term::Mem;
@@ -45,6 +46,7 @@ fn find_here(alloc: Global, demods: &[Numbered], t: &Term) -> Mem<Option<Redex>>
 /// The first redex of the term in post-order. It recurs as deep as the term is.
 #[cycle(find)]
 fn find_in_term(alloc: Global, demods: &[Numbered], t: &Term) -> Mem<Option<Redex>>
+    requires { term_weight t.now < 2 ^ 32 }
     ensures { IfOk result (λ found. MatchOption found (FindsNone demods.now (IsWithin t.now)) (λ r. Finds demods.now (IsWithin t.now) r.path.items r.place r.terms)) }
 {
     match t {
@@ -59,13 +61,14 @@ fn find_in_term(alloc: Global, demods: &[Numbered], t: &Term) -> Mem<Option<Rede
 /// The first redex of the arguments in post-order.
 #[cycle(find)]
 fn find_in_terms(alloc: Global, demods: &[Numbered], args: &[Term]) -> Mem<Option<Redex>>
+    requires { sum (map term_weight args.now) < 2 ^ 32 }
     ensures { IfOk result (λ found. MatchOption found (FindsNone demods.now (IsSubtermAt args.now)) (λ r. Finds demods.now (IsSubtermAt args.now) r.path.items r.place r.terms)) }
 {
     for i in 0..args.len() {
         match find_in_term(alloc, demods, &args[i])? {
             Some(inner) => {
                 let mut redex = inner;
-                redex.path.insert(0, number(i + 1)?)?;
+                redex.path.insert(0, i as u32 + 1)?;
                 return Ok(Some(redex));
             }
             None => {}
@@ -76,12 +79,13 @@ fn find_in_terms(alloc: Global, demods: &[Numbered], args: &[Term]) -> Mem<Optio
 
 /// The first redex of the literals: in the first that has one, and there the first in post-order.
 pub fn find(alloc: Global, demods: &[Numbered], literals: &[Literal]) -> Mem<Option<Found>>
+    requires { sum (map literal_weight literals.now) < 2 ^ 32 }
     ensures { IfOk result (λ found. MatchOption found (FindsNoneIn demods.now literals.now) (λ f. FindsIn demods.now literals.now f.literal f.redex.path.items f.redex.place f.redex.terms)) }
 {
     for i in 0..literals.len() {
         match find_in_terms(alloc, demods, literals[i].args.as_slice())? {
             Some(redex) => {
-                let literal = number(i + 1)?;
+                let literal = i as u32 + 1;
                 return Ok(Some(Found { literal, redex }));
             }
             None => {}

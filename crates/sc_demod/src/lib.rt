@@ -1,16 +1,18 @@
 //! Rewriting by demodulators, orientation of equations and unit deletion, as a conclusion is simplified.
 //!
-//! It stands on the definitions `Rewriting` and `Simplification` of sc_rules, on sc_unify's `match_onto`, on sc_term's
-//! instances and weights, and on sc_steps' `Made`, a conclusion with its derivation. Callers may rest on these:
+//! It stands on the definitions `Rewriting` and `Simplification` of sc_rules, on sc_unify's `match_onto`, on sc_resolve for
+//! the lines of a part and the order of units, on sc_term's instances and weights, and on sc_steps' `Made`, a conclusion
+//! with its derivation. Callers may rest on these:
 //! `rewrite`, `orient` and `unit_delete` answer the conclusion that the definitions say (`Rewrites`, `Orients`,
 //! `DeletesOnce` until there is none), with its derivation line for line; what they take by value is spent. Over every
 //! list of clauses that has the demodulators and units at their numbers, and over which the argument's lines check, the
 //! answer's lines check too. `has_redex` and `becomes_demod` answer true exactly where the definitions say.
 //!
 //! The walk to the first redex goes no further than that redex, and as deep as terms are; a redex's path is put together
-//! on the way back. The first demodulator or unit of a list that fits is the least, since their numbers rise. A term is
-//! copied for each pattern whose first symbol it has, as matching is of atoms. Want of memory is the one other answer;
-//! lines, literals and arguments past the last u32 count as that.
+//! on the way back. The first demodulator that fits is the least, since their numbers rise; units may stand in any order,
+//! with numbers that differ, and are tried in the order of their numbers. A term is copied for each pattern whose first
+//! symbol it has, as matching is of atoms. Want of memory is the one other answer; by design it is the answer too where three
+//! more lines would make 4,294,967,295 or more, as their numbers are of u32.
 #![tactic(auto)]
 
 mod becoming;
@@ -21,7 +23,6 @@ mod extend;
 mod find;
 mod fit;
 mod orientation;
-mod part;
 mod redex;
 mod replace;
 mod rewriting;

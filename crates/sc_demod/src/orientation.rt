@@ -9,7 +9,7 @@ ghost use Rattle.sc_rules.specs.Simplification.{IsUphill, Orients};
 ghost use Rattle.sc_demod.specs.Orienting.{IsTurned};
 
 use crate::equation::{equation, sides};
-use crate::extend::{extend, number};
+use crate::extend::{count_lines, extend};
 use sc_data::{Clause, Step};
 use sc_steps::Made;
 use sc_term::{Mem, term_weight};
@@ -37,7 +37,7 @@ fn oriented(alloc: Global, made: Made) -> Mem<Made>
 {
     match turned(alloc, &made.clause)? {
         Some(clause) => {
-            let of = number(made.lines.len())?;
+            let of = count_lines(&made.lines)?;
             let lines = made.lines;
             extend(alloc, lines, Step::Flip { of, lit: 1 }, clause)
         }
@@ -46,7 +46,8 @@ fn oriented(alloc: Global, made: Made) -> Mem<Made>
 }
 
 /// A positive unit equation whose right side weighs more is flipped, with a `flip` line, and any other clause left as
-/// it is (`Orients`). Over clauses over which the lines check, the answer's lines check too.
+/// it is (`Orients`). Over clauses over which the lines check, the answer's lines check too. No line is
+/// added to 4,294,967,292 or more, as their numbers are of u32: that is answered as want of memory.
 pub fn orient(alloc: Global, made: Made) -> Mem<Made>
     ensures orients { IfOk result (λ after. Orients made.lines after.lines) }
     ensures checks { IfOk result (λ after. (clauses : List AClause) → AreSteps clauses made.lines → AreSteps clauses after.lines) }

@@ -1,6 +1,7 @@
 //! Rewriting by demodulators.
 
-ghost use Rattle.std.specs.Prelude.{◌≡◌, List, ◌↔◌, IfOk, IsTrue, MatchOption, Some};
+ghost use Rattle.std.specs.Prelude.{◌≡◌, ◌≤◌, List, ◌↔◌, IfOk, IsTrue, MatchOption, Some};
+ghost use Rattle.sc_data.specs.Clause as spec;
 ghost use Rattle.sc_data.specs.Clause.{IsWithinLimits};
 ghost use Rattle.sc_data.specs.declared.Line.{Line as ALine};
 ghost use Rattle.sc_rules.specs.Rewriting.{Rewrites, RewritesOnce};
@@ -11,11 +12,11 @@ ghost use Rattle.sc_demod.specs.Finding.{FindsIn};
 
 use crate::demods::Demods;
 use crate::equation::sides;
-use crate::extend::number;
+use crate::extend::count_lines;
 use crate::find::{Found, find};
-use crate::part::add_part;
 use crate::replace::put_in;
 use sc_data::{Clause, Line, Numbered, Side, Step, Term};
+use sc_resolve::{add_line, add_part};
 use sc_steps::Made;
 use sc_term::{MAX_DEPTH, MAX_WEIGHT, Mem, copy, depth, instance, weight};
 use sqlite_items::Items;
@@ -66,7 +67,8 @@ fn change_at(
 
 /// The change at the first redex, or None where there is none or it would be outside the limits.
 fn first_change(alloc: Global, clause: &Clause, demods: &[Numbered]) -> Mem<Option<Change>>
-    requires { AreDemods demods.now }
+    requires are { AreDemods demods.now }
+    requires light { spec.weight clause.now ≤ 10000 }
     ensures { IfOk result (λ o. MatchOption o (IsIrreducible demods.now clause.now) (λ x. IsChange demods.now clause.now x.found.literal x.found.redex.path.items x.found.redex.place x.found.redex.terms x.part x.after)) }
 {
     match find(alloc, demods, clause.literals.as_slice())? {
@@ -89,10 +91,10 @@ fn add_change(
     requires change { IsChange demods.now clause.now made.found.literal made.found.redex.path.items made.found.redex.place made.found.redex.terms made.part made.after }
     ensures { IfOk result (λ c. IsRewritten demods.now lines.old lines.new c) }
 {
-    let into = number(lines.len())?;
+    let into = count_lines(lines)?;
     let Found { literal, redex } = made.found;
     let demodulator = &demods[redex.place];
-    let from = add_part(alloc, lines, demodulator, made.part, redex.terms)?;
+    let from = add_part(alloc, lines, demodulator, redex.terms, &made.part)?;
     let copied = copy(alloc, &made.after)?;
     let step = Step::Para {
         from,
@@ -102,10 +104,7 @@ fn add_change(
         into_lit: literal,
         path: Items::from_vec(redex.path),
     };
-    lines.push(Line {
-        step,
-        clause: copied,
-    })?;
+    add_line(lines, step, copied)?;
     Ok(made.after)
 }
 
@@ -118,6 +117,7 @@ fn rewrite_once(
     demods: &[Numbered],
 ) -> Mem<Option<Clause>>
     requires are { AreDemods demods.now }
+    requires light { spec.weight clause.now ≤ 10000 }
     requires ends { last_clause lines.old ≡ Some clause.now }
     requires agrees { AllAgree lines.old demods.now }
     ensures { IfOk result (λ o. MatchOption o ((lines.new ≡ lines.old) × ((after : List ALine) → ¬ RewritesOnce demods.now lines.old after)) (λ c. IsRewritten demods.now lines.old lines.new c)) }
@@ -150,7 +150,7 @@ fn rewrite_by(alloc: Global, made: Made, demods: &[Numbered], limit: u32) -> Mem
 /// then in post-order, by the demodulator of least number that fits. It ends where there is no redex, after as many
 /// rewrites as the limit says, or before a result outside the limits, weight 10,000 and depth 256. The lines have to
 /// check over some clauses that have the demodulators at their numbers; over all such clauses the answer's lines check
-/// too.
+/// too. No line is added to 4,294,967,292 or more, as their numbers are of u32: that is answered as want of memory.
 pub fn rewrite(alloc: Global, made: Made, demods: &Demods, limit: u32) -> Mem<Made>
     requires { ChecksWith demods.now made.lines }
     ensures rewrites { IfOk result (λ after. Rewrites demods.now limit made.lines after.lines) }

@@ -160,16 +160,31 @@ fn inner_is_first(alloc: Global) -> Mem<bool> {
     }
 }
 
-fn has(alloc: Global, text: &[u8]) -> Mem<bool> {
+fn has(alloc: Global, text: &[u8]) -> Mem<Option<bool>> {
     let d = demodulator(alloc)?;
-    has_redex(alloc, &clause(alloc, &[(true, P, &[text])])?, &d)
+    let c = clause(alloc, &[(true, P, &[text])])?;
+    if !is_within_limits(&c) {
+        return Ok(None);
+    }
+    Ok(Some(has_redex(alloc, &c, &d)?))
 }
 
 #[test]
 fn redexes_are_found(rt: HostRuntime) {
     assert_eq!(rt; inner_is_first(rt.alloc()), Ok(true));
-    assert_eq!(rt; has(rt.alloc(), b"eeaff"), Ok(true));
-    assert_eq!(rt; has(rt.alloc(), b"a"), Ok(false));
+    assert_eq!(rt; has(rt.alloc(), b"eeaff"), Ok(Some(true)));
+    assert_eq!(rt; has(rt.alloc(), b"a"), Ok(Some(false)));
+}
+
+/// Whether the second line flips literal 1 of the first.
+fn is_flip(made: &Made) -> bool {
+    match made.lines.get(1) {
+        Some(line) => match &line.step {
+            Step::Flip { of, lit } => *of == 1 && *lit == 1,
+            _ => false,
+        },
+        None => false,
+    }
 }
 
 fn flips(alloc: Global) -> Mem<bool> {
@@ -177,7 +192,7 @@ fn flips(alloc: Global) -> Mem<bool> {
         return Ok(false);
     };
     let after = orient(alloc, made)?;
-    is(alloc, &after, &[(true, EQUALS, &[b"ag", b"a"])], 2)
+    Ok(is(alloc, &after, &[(true, EQUALS, &[b"ag", b"a"])], 2)? && is_flip(&after))
 }
 
 fn cuts(alloc: Global) -> Mem<bool> {
@@ -193,10 +208,40 @@ fn cuts(alloc: Global) -> Mem<bool> {
     is(alloc, &after, &[(true, Q, &[])], 4)
 }
 
+/// Whether the second line is `input 1`.
+fn has_first_input(made: &Made) -> bool {
+    match made.lines.get(1) {
+        Some(line) => match &line.step {
+            Step::Input(n) => *n == 1,
+            _ => false,
+        },
+        None => false,
+    }
+}
+
+/// Whether of `-p(x0)`, number 3, and `-p(a)`, number 1, the latter removes `p(a)`, though it stands behind.
+fn least_cuts(alloc: Global) -> Mem<bool> {
+    let Some(made) = given(alloc, &[(true, P, &[b"a"]), (true, Q, &[])])? else {
+        return Ok(false);
+    };
+    let mut units = Items::new(alloc);
+    units.push(Numbered {
+        number: 3,
+        clause: clause(alloc, &[(false, P, &[b"0"])])?,
+    })?;
+    units.push(Numbered {
+        number: 1,
+        clause: clause(alloc, &[(false, P, &[b"a"])])?,
+    })?;
+    let after = unit_delete(alloc, made, &units)?;
+    Ok(is(alloc, &after, &[(true, Q, &[])], 3)? && has_first_input(&after))
+}
+
 #[test]
 fn conclusions_are_flipped_and_cut(rt: HostRuntime) {
     assert_eq!(rt; flips(rt.alloc()), Ok(true));
     assert_eq!(rt; cuts(rt.alloc()), Ok(true));
+    assert_eq!(rt; least_cuts(rt.alloc()), Ok(true));
 }
 
 fn becomes(alloc: Global, left: &[u8], right: &[u8]) -> Mem<bool> {

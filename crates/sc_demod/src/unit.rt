@@ -1,6 +1,6 @@
 //! Unit deletion.
 
-ghost use Rattle.std.specs.Prelude.{◌≡◌, ◌<◌, ◌≤◌, ◌+◌, ◌∷◌, [], not, length, AllPairs, IfOk, MatchOption, IsSomeAnd, Some, IsTrue, ◌↔◌};
+ghost use Rattle.std.specs.Prelude.{◌≡◌, ◌≢◌, ◌<◌, ◌≤◌, ◌+◌, ◌∷◌, [], not, length, AllPairs, IfOk, MatchOption, IsSomeAnd, Some, IsTrue, ◌↔◌};
 ghost use Rattle.sc_data.specs.Clause as of;
 ghost use Rattle.sc_data.specs.Numbering.{numbered};
 ghost use Rattle.sc_data.specs.declared.Clause.{Clause as AClause};
@@ -8,13 +8,14 @@ ghost use Rattle.sc_data.specs.declared.Literal.{Literal as ALiteral};
 ghost use Rattle.sc_rules.specs.Order.{Exhausts};
 ghost use Rattle.sc_rules.specs.Simplification.{Removes, DeletesOnce};
 ghost use Rattle.sc_steps.specs.Derivation.{last_clause};
+ghost use Rattle.sc_resolve.specs.ByNumber.{seen};
 ghost use Rattle.sc_demod.specs.Standing.{Agrees, ChecksWith, KeepsChecking};
 ghost use Rattle.sc_demod.specs.Deleting.{IsRemoval, IsFirstRemoval, RemovesNone, opposite, IsCut};
 
-use crate::extend::number;
+use crate::extend::count_lines;
 use crate::fit::Fit;
-use crate::part::add_part;
 use sc_data::{Clause, Line, Literal, Numbered, Step, Term};
+use sc_resolve::{add_line, add_part, by_number};
 use sc_steps::Made;
 use sc_term::{Mem, copy, copy_literal};
 use sc_unify::match_onto;
@@ -44,11 +45,11 @@ fn removing(alloc: Global, l: &Literal, u: &Numbered) -> Mem<Option<Items<Term>>
 }
 
 /// The first unit of the list that removes the literal, or None where none does.
-fn first_removing(alloc: Global, l: &Literal, units: &[Numbered]) -> Mem<Option<Fit>>
-    ensures { IfOk result (λ found. MatchOption found (RemovesNone units.now l.now) (λ f. IsFirstRemoval units.now l.now f.place f.terms)) }
+fn first_removing(alloc: Global, l: &Literal, units: &[&Numbered]) -> Mem<Option<Fit>>
+    ensures { IfOk result (λ found. MatchOption found (RemovesNone (seen units.now) l.now) (λ f. IsFirstRemoval (seen units.now) l.now f.place f.terms)) }
 {
     for place in 0..units.len() {
-        match removing(alloc, l, &units[place])? {
+        match removing(alloc, l, units[place])? {
             Some(terms) => return Ok(Some(Fit { place, terms })),
             None => {}
         }
@@ -77,15 +78,16 @@ fn cut(
     terms: Items<Term>,
 ) -> Mem<Clause>
     requires there { at < length clause.literals }
+    requires light { of.weight clause ≤ 10000 }
     requires removes { IsSomeAnd (numbered clause.literals (at + 1)) (λ l. IsRemoval l u.now terms) }
     requires ends { last_clause lines.old ≡ Some clause }
     requires agrees { Agrees lines.old u.now }
     ensures { IfOk result (λ after. IsCut clause lines.old (at + 1) u.now after lines.new) }
 {
-    let left = number(lines.len())?;
-    let left_lit = number(at + 1)?;
+    let left = count_lines(lines)?;
+    let left_lit = at as u32 + 1;
     let part = opposite(alloc, &clause.literals.as_slice()[at])?;
-    let right = add_part(alloc, lines, u, part, terms)?;
+    let right = add_part(alloc, lines, u, terms, &part)?;
     let mut literals = clause.literals;
     literals.remove(at);
     let after = Clause { literals };
@@ -96,19 +98,16 @@ fn cut(
         right,
         right_lit: 1,
     };
-    lines.push(Line {
-        step,
-        clause: copied,
-    })?;
+    add_line(lines, step, copied)?;
     Ok(after)
 }
 
-/// `unit_delete` by the units of a slice.
-fn delete_all(alloc: Global, made: Made, units: &[Numbered]) -> Mem<Made>
-    requires rising { AllPairs (λ p q. p.number < q.number) units.now }
-    requires checks { ChecksWith units.now made.lines }
-    ensures deletes { IfOk result (λ after. Exhausts (DeletesOnce units.now) made.lines after.lines) }
-    ensures checks { IfOk result (λ after. KeepsChecking units.now made.lines after.lines) }
+/// `unit_delete` by units in rising order of their numbers.
+fn delete_all(alloc: Global, made: Made, units: &[&Numbered]) -> Mem<Made>
+    requires rising { AllPairs (λ p q. p.number < q.number) (seen units.now) }
+    requires checks { ChecksWith (seen units.now) made.lines }
+    ensures deletes { IfOk result (λ after. Exhausts (DeletesOnce (seen units.now)) made.lines after.lines) }
+    ensures checks { IfOk result (λ after. KeepsChecking (seen units.now) made.lines after.lines) }
 {
     let mut clause = made.clause;
     let mut lines = made.lines;
@@ -116,7 +115,7 @@ fn delete_all(alloc: Global, made: Made, units: &[Numbered]) -> Mem<Made>
     while at < clause.literals.len() {
         match first_removing(alloc, &clause.literals.as_slice()[at], units)? {
             Some(found) => {
-                let unit = &units[found.place];
+                let unit = units[found.place];
                 clause = cut(alloc, clause, &mut lines, at, unit, found.terms)?;
             }
             None => at += 1,
@@ -126,13 +125,16 @@ fn delete_all(alloc: Global, made: Made, units: &[Numbered]) -> Mem<Made>
 }
 
 /// Literals are removed, from the left, each by the unit of least number that has the opposite sign and the literal's
-/// atom as an instance, until none can be (`DeletesOnce`). The numbers of the units have to rise, and the lines to check
-/// over some clauses that have the units at their numbers; over all such clauses the answer's lines check too.
+/// atom as an instance, until none can be (`DeletesOnce`). The units may stand in any order, but their numbers have to
+/// differ. The lines have to check over some clauses that have the units at their numbers; over all such clauses the
+/// answer's lines check too. No line is added to 4,294,967,292 or more, as their numbers are of u32: that is answered as
+/// want of memory.
 pub fn unit_delete(alloc: Global, made: Made, units: &Items<Numbered>) -> Mem<Made>
-    requires rising { AllPairs (λ p q. p.number < q.number) units.now }
+    requires differ { AllPairs (λ p q. p.number ≢ q.number) units.now }
     requires checks { ChecksWith units.now made.lines }
     ensures deletes { IfOk result (λ after. Exhausts (DeletesOnce units.now) made.lines after.lines) }
     ensures checks { IfOk result (λ after. KeepsChecking units.now made.lines after.lines) }
 {
-    delete_all(alloc, made, units.as_slice())
+    let ordered = by_number(alloc, units.as_slice())?;
+    delete_all(alloc, made, ordered.as_slice())
 }

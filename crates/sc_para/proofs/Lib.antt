@@ -4,3 +4,4 @@ pub mod ListingLaws
 pub mod ReplacingLaws
 pub mod ConclusionLaws
 pub mod ParaLaws
+pub mod FixtureLaws

@@ -22,3 +22,6 @@ mod subterms;
 
 pub use listing::{para_from_sites, para_into_sites};
 pub use making::make_para;
+
+#[cfg(test)]
+mod tests;

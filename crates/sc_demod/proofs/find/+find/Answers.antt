@@ -1,8 +1,11 @@
-use Rattle.std.proofs.Common.{◌≡◌, sym, subst, ℕ, ◌+◌, ◌∷◌, MatchOption, arith}
+use Rattle.std.proofs.Common.{sym, subst, MatchOption, arith}
 use Rattle.std.proofs.lemmas.List.Elements.{AllWithin-more, at_read}
 use Rattle.sc_data.specs.declared.Term.{Term}
+use Rattle.sc_data.specs.Term.{term_weight, term_depth}
 use Rattle.sc_data.specs.Path.{IsSubtermAt}
+use Rattle.sc_term.proofs.Occurrences.{at-most-largest}
 use Rattle.sc_demod.specs.Finding.{IsWithin, FindsNone, Finds}
+use Rattle.sc_demod.proofs.WeightLaws.{one_of_sum, few_terms}
 use Rattle.sc_demod.proofs.FindLaws.{found_inner, here_where, found_in_terms, none_in_terms}
 use Rattle.sc_demod.proofs.find.+find.Goals as goal
 
@@ -20,6 +23,20 @@ find_in_term-returns-in-None t c =
     let told = subst (λ o. MatchOption o (FindsNone demods (IsSubtermAt c.as_slice.result.now)) (λ x. Finds demods (IsSubtermAt c.as_slice.result.now) x.path.items x.place x.terms)) c.in-None.is c.in_ok-inner-in-App.ensures in
     here_where demods c.find_here.result c.args.t.now c.in-App.field-0 c.in-App.args c.in-App.is (subst (λ ts. FindsNone demods (IsSubtermAt ts)) c.as_slice.ensures told) c.find_here.ensures
 
+pub find_in_terms-find_in_term-requires : goal.find_in_terms-find_in_term-requires
+find_in_terms-find_in_term-requires t c =
+    let args = c.args.args.now in
+    let one = c.index-args-i.result in
+    let shallow = at-most-largest term_depth args c.loop-i.i one c.loop-i-test.true c.index-args-i.is in
+    let light = one_of_sum term_weight args c.loop-i.i one c.loop-i-test.true c.index-args-i.is in
+    (omega (arith, shallow, c.decreases), omega (arith, light, c.requires))
+
+pub find_in_terms-overflow_cast-i : goal.find_in_terms-overflow_cast-i
+find_in_terms-overflow_cast-i t c = omega (arith, few_terms c.args.args.now, c.requires)
+
+pub find_in_terms-overflow_add-i : goal.find_in_terms-overflow_add-i
+find_in_terms-overflow_add-i t c = omega (arith, few_terms c.args.args.now, c.requires)
+
 pub find_in_terms-returns-in-Some : goal.find_in_terms-returns-in-Some
 find_in_terms-returns-in-Some t c =
     let demods = c.args.demods.now in
@@ -28,8 +45,7 @@ find_in_terms-returns-in-Some t c =
     let one = c.index-args-i.result in
     let r = c.in-Some.inner in
     let told = subst (λ o. MatchOption o (FindsNone demods (IsWithin one)) (λ x. Finds demods (IsWithin one) x.path.items x.place x.terms)) c.in-Some.is c.in_ok-inner.ensures in
-    let path = subst (λ (n : ℕ). c.insert.new.self.items ≡ n ∷ r.path.items) c.in_ok-number-in-Some.ensures c.in_ok-insert-in-Some.ensures.items in
-    subst (λ p. Finds demods (IsSubtermAt args) p r.place r.terms) (sym path)
+    subst (λ p. Finds demods (IsSubtermAt args) p r.place r.terms) (sym c.in_ok-insert-in-Some.ensures.items)
     (found_in_terms demods args i one r.path.items r.place r.terms c.loop-i-test.true c.index-args-i.is c.loop-i.invariant told)
 
 pub find_in_terms-loop-i-preserved : goal.find_in_terms-loop-i-preserved

@@ -19,8 +19,8 @@ returns c =
     let before = c.args.lines.now in
     let mid = c.add_part.new.lines in
     let k = c.in_ok-from.from in
-    let into : c.in_ok-into.into ≡ length before = c.in_ok-into.ensures ∙ c.len.ensures in
+    let into : c.in_ok-into.into ≡ length before = c.in_ok-into.ensures.0 in
     let line = λ (n : ℕ) (p : List ℕ) (d : Clause). let one : Line = record { step = Para k 1 Left n m.found.literal p; clause = d } in one in
-    let grows : c.push.new.self ≡ mid ++ line (length before) r.path.items m.after ∷ [] = c.in_ok-push.ensures.ok ∙ (λ i. mid ++ line (into i) (c.from_vec.ensures i) (c.in_ok-copied.ensures i) ∷ []) in
+    let grows : c.add_line.new.lines ≡ mid ++ line (length before) r.path.items m.after ∷ [] = c.in_ok-add_line.ensures.grown ∙ (λ i. mid ++ line (into i) (c.from_vec.ensures i) (c.in_ok-copied.ensures i) ∷ []) in
     change_rewrites c.args.demods.now c.requires.are c.args.clause.now m.found.literal r.path.items r.place r.terms m.part m.after c.requires.change c.index-demods-redex.result c.index-demods-redex.is
-    before mid c.push.new.self k c.requires.ends c.requires.agrees c.in_ok-from.ensures grows
+    before mid c.add_line.new.lines k c.requires.ends c.requires.agrees c.in_ok-from.ensures.adds grows

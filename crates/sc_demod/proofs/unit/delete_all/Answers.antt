@@ -6,6 +6,8 @@ use Rattle.sc_data.specs.declared.Term.{Term}
 use Rattle.sc_data.specs.Numbering.{numbered}
 use Rattle.sc_steps.proofs.LineLaws.{some_so}
 use Rattle.sc_rules.specs.Order.{ends, goes}
+use Rattle.sc_resolve.specs.ByNumber.{seen}
+use Rattle.sc_resolve.proofs.OrderLaws.{seen_or}
 use Rattle.sc_demod.specs.Deleting.{IsRemoval, IsFirstRemoval, RemovesNone}
 use Rattle.sc_demod.proofs.FindLaws.{number_got}
 use Rattle.sc_demod.proofs.PartLaws.{agrees_with}
@@ -18,24 +20,27 @@ read_removal units l place terms u h at = subst (λ u. IsRemoval l u terms) (h.t
 
 pub cut-requires-clause-removes : goal.cut-requires-clause-removes
 cut-requires-clause-removes c =
-    let units = c.args.units.now in
+    let units = seen c.args.units.now in
     let ls = c.loop-at.clause.literals in
     let at = c.loop-at.at in
     let l = c.index-as_slice-at.result in
-    let u = c.index-units-found.result in
+    let u = c.index-units-found.result.now in
     let f = c.in-Some.found in
     let here : l ≡ get_or ls at l = c.index-as_slice-at.is ∙ ap (λ (ls : List Literal). get_or ls at l) c.as_slice.ensures in
     let told = subst (λ o. MatchOption o (RemovesNone units l) (λ f. IsFirstRemoval units l f.place f.terms)) c.in-Some.is c.in_ok-found.ensures in
-    some_so (numbered ls (at + 1)) (λ l. IsRemoval l u f.terms) l (number_got ls at l (omega arith) here) (read_removal units l f.place f.terms u told c.index-units-found.is)
+    let here_unit = seen_or c.args.units.now f.place c.index-units-found.result told.within c.index-units-found.is in
+    some_so (numbered ls (at + 1)) (λ l. IsRemoval l u f.terms) l (number_got ls at l (omega arith) here) (read_removal units l f.place f.terms u told here_unit)
 
 pub cut-requires-clause-agrees : goal.cut-requires-clause-agrees
 cut-requires-clause-agrees c =
-    let units = c.args.units.now in
+    let units = seen c.args.units.now in
     let l = c.index-as_slice-at.result in
+    let f = c.in-Some.found in
     let told = subst (λ o. MatchOption o (RemovesNone units l) (λ f. IsFirstRemoval units l f.place f.terms)) c.in-Some.is c.in_ok-found.ensures in
+    let here_unit = seen_or c.args.units.now f.place c.index-units-found.result told.within c.index-units-found.is in
     let over = c.requires.checks in
-    let listed : Contains units c.index-units-found.result = (c.in-Some.found.place, told.within, sym c.index-units-found.is) in
-    agrees_with units c.loop-at.lines c.index-units-found.result (over.0, over.1, c.loop-at.invariant.checks over.0 over.1 over.2) listed
+    let listed : Contains units c.index-units-found.result.now = (f.place, told.within, sym here_unit) in
+    agrees_with units c.loop-at.lines c.index-units-found.result.now (over.0, over.1, c.loop-at.invariant.checks over.0 over.1 over.2) listed
 
 pub loop-at-smaller-in-Some : goal.loop-at-smaller-in-Some
 loop-at-smaller-in-Some c =
@@ -45,11 +50,11 @@ loop-at-smaller-in-Some c =
 
 pub loop-at-preserved-in-Some : goal.loop-at-preserved-in-Some
 loop-at-preserved-in-Some c =
-    let units = c.args.units.now in
+    let units = seen c.args.units.now in
     let clause = c.loop-at.clause in
     let at = c.loop-at.at in
     let l = c.index-as_slice-at.result in
-    let u = c.index-units-found.result in
+    let u = c.index-units-found.result.now in
     let f = c.in-Some.found in
     let h = c.in_ok-clause-in-Some.ensures in
     let cut = c.in_ok-clause-in-Some.clause in
@@ -57,10 +62,11 @@ loop-at-preserved-in-Some c =
     let less : at < length clause.literals = omega arith in
     let here : l ≡ get_or clause.literals at l = c.index-as_slice-at.is ∙ ap (λ (ls : List Literal). get_or ls at l) c.as_slice.ensures in
     let told = subst (λ o. MatchOption o (RemovesNone units l) (λ f. IsFirstRemoval units l f.place f.terms)) c.in-Some.is c.in_ok-found.ensures in
+    let here_unit = seen_or c.args.units.now f.place c.index-units-found.result told.within c.index-units-found.is in
     let same = named clause.literals at l h.literal less here h.literal_there in
-    let least = least_removal units l h.literal f.place u f.terms c.requires.rising told.within c.index-units-found.is (read_removal units l f.place f.terms u told c.index-units-found.is) told.first same in
+    let least = least_removal units l h.literal f.place u f.terms c.requires.rising told.within here_unit (read_removal units l f.place f.terms u told here_unit) told.first same in
     let once = deletes_once units clause c.loop-at.lines (at + 1) u cut c.cut.new.lines h inv.ends inv.none least in
-    let listed : Contains units u = (f.place, told.within, sym c.index-units-found.is) in
+    let listed : Contains units u = (f.place, told.within, sym here_unit) in
     record {
       within = omega (arith, shorter clause cut at less h.rest, less);
       ends = h.ends;
@@ -73,7 +79,7 @@ loop-at-preserved-in-Some c =
 
 pub loop-at-preserved : goal.loop-at-preserved
 loop-at-preserved c =
-    let units = c.args.units.now in
+    let units = seen c.args.units.now in
     let clause = c.loop-at.clause in
     let at = c.loop-at.at in
     let l = c.index-as_slice-at.result in
@@ -94,4 +100,4 @@ loop-at-preserved c =
 pub returns-clause-deletes : goal.returns-clause-deletes
 returns-clause-deletes c =
     let inv = c.loop-at.invariant in
-    inv.chain c.loop-at.lines (ends (nothing_left c.args.units.now c.loop-at.clause c.loop-at.lines c.loop-at.at inv.ends (omega arith) inv.none))
+    inv.chain c.loop-at.lines (ends (nothing_left (seen c.args.units.now) c.loop-at.clause c.loop-at.lines c.loop-at.at inv.ends (omega arith) inv.none))

@@ -4,6 +4,7 @@ use Rattle.sc_data.specs.Clause.{weight, depth}
 use Rattle.sc_rules.specs.Order.{Exhausts}
 use Rattle.sc_rules.specs.Simplification.{IsRemovable, DeletesOnce}
 use Rattle.sc_steps.specs.Derivation.{last_clause}
+use Rattle.sc_resolve.specs.ByNumber.{seen}
 use Rattle.sc_demod.specs.Standing.{KeepsChecking}
 use Rattle.sc_demod.proofs.unit.delete_all.Given as goal
 
@@ -13,9 +14,9 @@ invariant-loop-at l = record {
   ends : last_clause l.lines ≡ Some l.clause;
   light : weight l.clause ≤ 10000;
   shallow : depth l.clause ≤ 256;
-  none : (b : ℕ) → b < l.at + 1 → ¬ IsRemovable l.units l.clause b;
-  checks : KeepsChecking l.units l.fn.made.lines l.lines;
-  chain : (z : List Line) → Exhausts (DeletesOnce l.units) l.lines z → Exhausts (DeletesOnce l.units) l.fn.made.lines z;
+  none : (b : ℕ) → b < l.at + 1 → ¬ IsRemovable (seen l.units) l.clause b;
+  checks : KeepsChecking (seen l.units) l.fn.made.lines l.lines;
+  chain : (z : List Line) → Exhausts (DeletesOnce (seen l.units)) l.lines z → Exhausts (DeletesOnce (seen l.units)) l.fn.made.lines z;
 }
 
 abbrev pub decreases-loop-at : goal.decreases-loop-at
