@@ -90,17 +90,6 @@ remove_at (z ∷ xs) ys (suc a) zero x less h m e = absurd (omega arith)
 remove_at (z ∷ xs) ys (suc a) (suc n) x less h zero e = absurd (omega (arith, less, e))
 remove_at (z ∷ xs) ys (suc a) (suc n) x less h (suc m) e = remove_at xs ys a n x (omega arith) h m (omega arith)
 
-pub up_to : {X : Type 0} (P : X → Type 0) (xs : List X) (at : ℕ) (x : X) → slice_get xs at ≡ Some x → P x → ((k : ℕ) (y : X) → k < at → slice_get xs k ≡ Some y → P y)
-    → (k : ℕ) (y : X) → k < at + 1 → slice_get xs k ≡ Some y → P y
-up_to P xs at x there holds below k y less e = by (decide k less)
-  where
-    decide : (j : ℕ) → j < at + 1 → (j < at) ⊎ (j ≡ at)
-    decide j l = grind arith
-
-    by : (k < at) ⊎ (k ≡ at) → P y
-    by (inl l) = below k y l e
-    by (inr same) = subst P (same_some (slice_get xs at) x y there (ap (slice_get xs) (sym same) ∙ e)) holds
-
 -- ---- numbers that differ
 
 pub one_of_number : {X : Type 0} (number : X → ℕ) (xs : List X) → AllPairs (λ x y. number x ≡ number y → x ≡ y) xs → (x y : X) → Contains xs x → Contains xs y → number x ≡ number y → x ≡ y

@@ -8,15 +8,11 @@ use Rattle.sc_data.specs.declared.Line.{Line}
 use Rattle.sc_data.specs.declared.Numbered.{Numbered}
 use Rattle.sc_data.specs.Term.{joined}
 use Rattle.sc_data.specs.Clause.{instance, width, IsWithinLimits}
-use Rattle.sc_data.specs.declared.Step.TheVariants.{Input}
-use Rattle.sc_data.specs.Numbering.{numbered}
 use Rattle.sc_data.specs.Proof.{clause_of}
 use Rattle.sc_data.specs.JointInstance.{whole}
 use Rattle.sc_unify.specs.Joint.{AreTermsOf}
 use Rattle.sc_steps.specs.Derivation.{IsInputAt}
-use Rattle.sc_steps.proofs.ListLaws.{some_and}
 use Rattle.sc_rules.specs.Derivation.{AddsPart, AddsParts}
-use Rattle.sc_rules.proofs.Enumerations.{numbered_none}
 use Rattle.sc_resolve.specs.Lines.{IsKnown, HasPart}
 use Rattle.sc_resolve.proofs.PartLaws.{NoMore, within_so, both_no_more}
 use Rattle.sc_hyper.specs.Making.{clauses_of, AreOneByNumber, AreTold, IsOpened}
@@ -83,13 +79,6 @@ adds_next before mid after (r ∷ ps) [] ks p part k h add = absurd h
 adds_next before mid after (r ∷ ps) (q ∷ parts) [] p part k h add = absurd h
 adds_next before mid after (r ∷ ps) (q ∷ parts) (j ∷ ks) p part k h add = (h.0, h.1, adds_next h.0 mid after ps parts ks p part k h.2 add)
 
-pub opened_none : (ps : List Numbered) (parts : List Clause) (lines : List Line) (ks : List ℕ) → ps ≡ [] → parts ≡ [] → lines ≡ [] → ks ≡ [] → IsOpened ps parts lines ks
-opened_none ps parts lines ks a b c d =
-    subst (λ (xs : List Numbered). IsOpened xs parts lines ks) (sym a)
-    (subst (λ (xs : List Clause). IsOpened [] xs lines ks) (sym b)
-    (subst (λ (xs : List Line). IsOpened [] [] xs ks) (sym c)
-    (subst (λ (xs : List ℕ). IsOpened [] [] [] xs) (sym d) (record { opens = (refl, refl); there = tt; few = omega arith }))))
-
 pub opened_next : (ps : List Numbered) (parts : List Clause) (lines after : List Line) (ks : List ℕ) (p : Numbered) (part : Clause) (k : ℕ) → IsOpened ps parts lines ks → HasPart lines p part after k
     → IsOpened (ps ++ p ∷ []) (parts ++ part ∷ []) after (ks ++ k ∷ [])
 opened_next ps parts lines after ks p part k h one = record {
@@ -106,11 +95,6 @@ still_known lines after p part k h q one known j input = by (h.keeps.named q.num
     by : IsInputAt lines q.number j ⊎ ((q.number ≡ p.number) × (clause_of after j ≡ Some p.clause)) → clause_of after j ≡ Some q.clause
     by (inl i) = h.keeps.same j q.clause (known j i)
     by (inr i) = i.1 ∙ ap (λ (r : Numbered). Some r.clause) (sym (one i.0))
-
-pub nothing_known : (lines : List Line) (q : Numbered) → lines ≡ [] → IsKnown lines q
-nothing_known lines q e j input =
-    let found = some_and (numbered [] j) (λ (line : Line). line.step ≡ Input q.number) (subst (λ (ls : List Line). IsInputAt ls q.number j) e input) in
-    absurd (numbered_none j found.0 found.1)
 
 -- ---- parent by parent
 

@@ -4,7 +4,6 @@ use Rattle.std.specs.Prelude.{MatchOption}
 use Rattle.std.specs.List.{All}
 use Rattle.std.proofs.lemmas.Option.{slice_get_within}
 use Rattle.sc_data.specs.declared.Term.{Term}
-use Rattle.sc_data.specs.declared.Literal.{Literal}
 use Rattle.sc_data.specs.declared.Clause.{Clause}
 use Rattle.sc_data.specs.declared.Numbered.{Numbered}
 use Rattle.sc_data.specs.declared.Pair.{Pair}
@@ -25,9 +24,6 @@ use Rattle.sc_hyper.proofs.ListPieces.{take_next, take_all, drop_next, drop_all}
 use Rattle.sc_hyper.proofs.CandidateLaws.{from_start}
 
 -- ---- pairs
-
-abbrev pub pair_of : Literal → Literal → Pair
-pair_of l m = record { left = l; right = m }
 
 abbrev pub place : ℕ → ℕ → Place
 place parent lit = record { parent = parent; lit = lit }
@@ -64,9 +60,6 @@ paired_long parents k [] (b ∷ others) ps h = absurd h
 paired_long parents k (l ∷ lits) [] ps h = absurd h
 paired_long parents k (l ∷ lits) (b ∷ others) [] h = absurd h
 paired_long parents k (l ∷ lits) (b ∷ others) (p ∷ ps) h = let rest = paired_long parents (k + 1) lits others ps h.2 in record { right = omega (arith, rest.right); both = omega (arith, rest.both) }
-
-pub pair_so : (p : Pair) (l m : Literal) → l ≡ p.left → m ≡ p.right → Some (pair_of l m) ≡ Some p
-pair_so p l m e f = λ i. Some (pair_of (e i) (f i))
 
 module _ (parents : List Clause) (lits others : List ℕ) (ps : List Pair) (h : ArePaired parents lits others ps) (at a : ℕ) (at_a : slice_get lits at ≡ Some a) where
   pub not_short : length others ≤ at → ⊥

@@ -1,5 +1,5 @@
 -- Resolving a clause with several parts, one after the other.
-use Rattle.std.proofs.Common.{◌≡◌, ◌∙◌, sym, ap, subst, refl, ℕ, suc, ◌+◌, ◌-◌, ◌<◌, ◌≤◌, List, [], ◌∷◌, ◌++◌, append_assoc, append-nil, length, length-append, map, Some, None, Option, slice_get, drop, arith}
+use Rattle.std.proofs.Common.{◌≡◌, ◌∙◌, sym, ap, subst, refl, ℕ, suc, ◌+◌, ◌-◌, ◌<◌, ◌≤◌, List, [], ◌∷◌, ◌++◌, append_assoc, length, length-append, map, Some, None, Option, slice_get, drop, arith}
 use Rattle.std.specs.List.{All, AllZip, AllPairs, AllByRecursion}
 use Rattle.sc_data.specs.declared.Literal.{Literal}
 use Rattle.sc_data.specs.declared.Clause.{Clause}
@@ -8,7 +8,6 @@ use Rattle.sc_data.specs.declared.Pair.{Pair}
 use Rattle.sc_data.specs.declared.Step.TheVariants.{Resolve}
 use Rattle.sc_data.specs.Numbering.{numbered, without}
 use Rattle.sc_data.specs.Term.{joined}
-use Rattle.sc_data.specs.Clause.{IsWithinLimits}
 use Rattle.sc_data.specs.Proof.{clause_of}
 use Rattle.sc_data.specs.Substitution.{Substitution, IsUnifier, clause_under, literal_under}
 use Rattle.sc_data.specs.JointInstance.{whole}
@@ -18,7 +17,7 @@ use Rattle.sc_resolve.specs.Lines.{IsAdded}
 use Rattle.sc_resolve.specs.Made.{IsOpposed}
 use Rattle.sc_resolve.proofs.LineLaws.{longer, last_there, still_there}
 use Rattle.sc_resolve.proofs.LiteralLaws.{numbered_next, numbered_place}
-use Rattle.sc_resolve.proofs.PartLaws.{numbered_map, NoMore, within_so, removed, both_no_more}
+use Rattle.sc_resolve.proofs.PartLaws.{numbered_map, NoMore, removed, both_no_more}
 use Rattle.sc_resolve.proofs.ResolvingLaws.{adds_resolve}
 use Rattle.sc_hyper.specs.Making.{resolvent, CanResolveAll, CanResolveParts}
 use Rattle.sc_hyper.proofs.ListPieces.{drop_next, drop_all, remove_at, zip_at, zip_so, zip_long}
@@ -246,13 +245,6 @@ resolved_end start part_lines parts lits others at lines line clause h end long 
     (subst (λ (ns : List ℕ). ResolvesAll lines line (less_by at (drop at lits)) (drop (at + 1) part_lines) ns lines) (sym (drop_all others at (omega arith)))
     (subst (λ (ns : List ℕ). ResolvesAll lines line (less_by at (drop at lits)) ns [] lines) (sym (drop_all part_lines (at + 1) (omega (arith, zip_long (λ k part. clause_of lines k ≡ Some part) part_lines parts h.parts_there))))
     (subst (λ (ns : List ℕ). ResolvesAll lines line (less_by at ns) [] [] lines) (sym (drop_all lits at end)) refl)))
-
-pub clause_within : (c : Clause) (rest : List Literal) (parts : List Clause) → NoMore (c.literals ++ rest) (whole parts).literals → IsWithinLimits (whole parts) → IsWithinLimits c
-clause_within c rest parts h within =
-    within_so c (whole parts)
-    (more_so c.literals (c.literals ++ rest) (whole parts).literals
-    (subst (λ (ls : List Literal). NoMore ls (c.literals ++ rest)) (append-nil c.literals)
-    (both_no_more c.literals c.literals [] rest (record { light = omega arith; shallow = omega arith }) (record { light = omega arith; shallow = omega arith }))) h) within
 
 pub there_so : (lines : List Line) (ks js : List ℕ) (parts qs : List Clause) → js ≡ ks → qs ≡ parts → AllZip (λ k part. clause_of lines k ≡ Some part) ks parts → AllZip (λ k part. clause_of lines k ≡ Some part) js qs
 there_so lines ks js parts qs e f h =
