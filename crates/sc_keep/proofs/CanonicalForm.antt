@@ -134,10 +134,10 @@ module _ (c : Clause) where
   abbrev place : ℕ → ℕ
   place n = position_or_len (nat_eq n) order
 
-  undone : AllByRecursion (λ n. get_or order (place n) 0 ≡ n) (variables c)
+  pub undone : AllByRecursion (λ n. get_or order (place n) 0 ≡ n) (variables c)
   undone = all_each (λ n. get_or order (place n) 0 ≡ n) (variables c) (λ n h. read_back n order (in_order c n h))
 
-  renumbered_order : firsts (variables (canonical c)) ≡ map place order
+  pub renumbered_order : firsts (variables (canonical c)) ≡ map place order
   renumbered_order =
       ap firsts ((clause_laws c).renamed (renumbering order) place (all_each (λ n. renumbering order n ≡ Var (place n)) (variables c) (λ n h. refl)))
       ∙ firsts_map place (λ k. get_or order k 0) [] (variables c) tt undone

@@ -6,6 +6,7 @@ ghost use Rattle.sc_data.specs.Numbering.{numbered};
 ghost use Rattle.sc_data.specs.Proof.{AreSteps, IsProof};
 ghost use Rattle.sc_data.specs.declared.Numbered.{Numbered as ANumbered};
 ghost use Rattle.sc_steps.specs.Derivation.{all_clauses};
+ghost use Rattle.sc_steps.specs.Splice.{IsSplice};
 ghost use Rattle.sc_reading.specs.WellFormed.{IsProblem};
 ghost use Rattle.sc_rules.specs.Book.{IsDerived, IsSound, next_number, numbered_clauses};
 ghost use Rattle.sc_rules.specs.Processing.{Processes};
@@ -216,6 +217,20 @@ impl Book {
         inputs.saturating_add(self.lists.derived.len() as u64)
     }
 
+    /// The flags of its problem.
+    pub fn flags(&self) -> Flags
+        ensures { result ≡ self.now.problem.flags }
+    {
+        self.flags
+    }
+
+    /// The parameters of its problem.
+    pub fn params(&self) -> Params
+        ensures { result ≡ self.now.problem.params }
+    {
+        self.params
+    }
+
     /// The usable clauses.
     pub fn usable(&self) -> &Items<Numbered>
         ensures { result.now ≡ self.now.book.usable }
@@ -244,14 +259,15 @@ impl Book {
         &self.lists.kept
     }
 
-    /// The lines of the clauses that clause number `goal` needs: where it is empty, a proof of the input clauses
-    /// (`IsProof`). The book has to be whole. The answer is `OutOfMemory` too where there would be 4,294,967,295 lines or
+    /// The lines of the clauses that clause number `goal` needs (`IsSplice`): where it is empty, a proof of the input
+    /// clauses (`IsProof`). The book has to be whole. The answer is `OutOfMemory` too where there would be 4,294,967,295 lines or
     /// more.
     pub fn proof(&self, goal: u32) -> Mem<Items<Line>>
         requires whole { self.now.whole ≡ true }
         requires there { 0 < goal }
         requires within { goal ≤ length self.now.problem.inputs + length self.now.book.derived }
-        ensures { IfOk result (λ lines. IsSomeAnd (numbered (numbered_clauses self.now.problem self.now.book) goal) (λ c. c.literals ≡ [])
+        ensures splice { IfOk result (λ lines. IsSplice self.now.problem.inputs self.now.book.derived goal lines) }
+        ensures proof { IfOk result (λ lines. IsSomeAnd (numbered (numbered_clauses self.now.problem self.now.book) goal) (λ c. c.literals ≡ [])
             → IsProof self.now.problem.inputs lines) }
     {
         let lines = splice(self.alloc, &self.inputs, &self.lists.derived, goal)?;
