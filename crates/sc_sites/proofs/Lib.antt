@@ -1,0 +1,4 @@
+pub mod MovingLaws
+pub mod JoiningLaws
+pub mod NamedLaws
+pub mod ConcludingLaws
