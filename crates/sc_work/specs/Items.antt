@@ -1,0 +1,42 @@
+-- One item of the work list.
+use Rattle.std.specs.Prelude.{◌≡◌, ◌≢◌, ◌⊎◌, ℕ, List, [], All, Contains, Option, Some, None}
+use Rattle.sc_data.specs.declared.Clause.{Clause}
+use Rattle.sc_data.specs.declared.Numbered.{Numbered}
+use Rattle.sc_data.specs.Numbering.{numbered}
+use Rattle.sc_resolve.specs.Kept.{IsKept}
+use Rattle.sc_reading.specs.Problem.{Stated}
+use Rattle.sc_steps.specs.declared.derivation.Derived.{Derived}
+use Rattle.sc_rules.specs.declared.fate.Fate.TheVariants.{Empty}
+use Rattle.sc_rules.specs.declared.fate.Processed.{Processed}
+use Rattle.sc_rules.specs.Book.{Book}
+use Rattle.sc_rules.specs.Inference.{Inference}
+use Rattle.sc_rules.specs.Processing.{Processes}
+use Rattle.sc_rules.specs.Sites.{Site, Infers}
+use Rattle.sc_rules.specs.WorkList.{At, Gives}
+
+-- the clauses that were usable when the turn began: the given clause is one of them, they are such as the book keeps,
+-- and each still is the one that has its number
+pub record AreUsable (clauses : List Clause) (given : Numbered) (usable : List Numbered) : Type 0 where
+  pub listed : Contains usable given
+  pub kept : All (λ p. IsKept p.clause) usable
+  pub stand : All (λ p. numbered clauses p.number ≡ Some p.clause) usable
+
+-- and the site is one of the given clause with them
+pub record IsSiteOf (clauses : List Clause) (given : Numbered) (usable : List Numbered) (site : Site) : Type 0 where
+  pub are_usable : AreUsable clauses given usable
+  pub inference : (i : Inference) × Infers given usable site i
+
+-- the site's conclusion is processed, with this outcome
+pub record IsProcessed (problem : Stated) (turn : ℕ) (given : Numbered) (usable : List Numbered) (old : Book) (site : Site) (new : Book) (out : Processed) : Type 0 where
+  pub made : Derived
+  pub gives : Gives problem old given usable (At site) made
+  pub processes : Processes problem old made.lines turn new out
+
+-- the site is worked: it gives nothing and the book stays, or its conclusion is processed, and no clause comes back; the
+-- number of the empty clause is told, if that was found
+abbrev pub IsWorked : Stated → ℕ → Numbered → List Numbered → Book → Site → Book → Option ℕ → Type 0
+IsWorked problem turn given usable old site new None =
+    (((made : Derived) → ¬ Gives problem old given usable (At site) made) × (new ≡ old))
+    ⊎ ((out : Processed) × IsProcessed problem turn given usable old site new out × ((k : ℕ) → out.fate ≢ Empty k) × (out.again ≡ []))
+IsWorked problem turn given usable old site new (Some k) =
+    (out : Processed) × IsProcessed problem turn given usable old site new out × (out.fate ≡ Empty k)
