@@ -1,0 +1,2 @@
+pub mod CanonicalMarks
+pub mod WideMarks

@@ -1,0 +1,45 @@
+//! The mark of any clause in tables, canonical or not: `mark_of`.
+//!
+//! It stands on sc_interp, whose `truth` is the mark of a canonical clause, and on sc_term for the canonical form. That a
+//! clause and its canonical form have one mark is a law (`proofs/CanonicalMarks`): variables that are named anew take
+//! the same elements, and are as many. Want of memory is the one other answer.
+#![tactic(auto)]
+
+ghost use Rattle.std.specs.Prelude.{IfOk};
+ghost use Rattle.sc_data.specs.Clause.{IsCanonical};
+ghost use Rattle.sc_interp.specs.Marks.{IsMark};
+
+use sc_data::Clause;
+use sc_interp::{Assign, Tables, Truth, truth};
+use sc_term::{Mem, OutOfMemory, canonical, full_width};
+use std::alloc::Global;
+
+/// With so many variables even two elements have more than 4,096 assignments.
+const WIDE_WIDTH: u64 = 13;
+
+/// The mark of the canonical clause of that width, where a register of it is short.
+#[tactic(auto, using(crate::proofs::WideMarks::wide))]
+fn mark_of_canonical(alloc: Global, tables: &Tables, form: &Clause) -> Mem<Truth>
+    requires { IsCanonical form.now }
+    ensures { IfOk result (λ truth. IsMark tables.now form.now truth) }
+{
+    let width = full_width(form);
+    if tables.size() >= 2 && width >= WIDE_WIDTH {
+        return Ok(Truth::Wide);
+    }
+    // In one element every clause has one assignment. No register is as wide as 2^32 variables.
+    let Ok(width) = u32::try_from(width) else {
+        return Err(OutOfMemory);
+    };
+    let mut register = Assign::new(alloc, width)?;
+    Ok(truth(tables, form, &mut register))
+}
+
+/// The mark of the clause in the tables (`IsMark`): `Wide` where its distinct variables have more than 4,096 assignments,
+/// otherwise whether each of these makes some literal true. The clause needn't be canonical.
+pub fn mark_of(alloc: Global, tables: &Tables, c: &Clause) -> Mem<Truth>
+    ensures { IfOk result (λ truth. IsMark tables.now c.now truth) }
+{
+    let form = canonical(alloc, c)?;
+    mark_of_canonical(alloc, tables, &form)
+}
