@@ -17,7 +17,7 @@ use std::alloc::Global;
 /// With so many variables even two elements have more than 4,096 assignments.
 const WIDE_WIDTH: u64 = 13;
 
-/// The mark of the canonical clause of that width, where a register of it is short.
+/// The mark of a clause that is canonical.
 #[tactic(auto, using(crate::proofs::WideMarks::wide))]
 fn mark_of_canonical(alloc: Global, tables: &Tables, form: &Clause) -> Mem<Truth>
     requires { IsCanonical form.now }
