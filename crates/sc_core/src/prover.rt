@@ -1,0 +1,213 @@
+//! The prover.
+
+ghost use Rattle.std.specs.Prelude.{◌≡◌, ◌≢◌, ◌≤◌, ◌<◌, ℕ, true, false, None, Some, Option as AnOption, IfOk, OnOk, OnErr, IfSome, IfNone, option_map};
+ghost use Rattle.sc_data.specs.Proof.{IsProof};
+ghost use Rattle.sc_data.specs.Refuted.{IsRefuted};
+ghost use Rattle.sc_steps.specs.Splice.{IsSplice};
+ghost use Rattle.sc_interp.specs.Versions as versions;
+ghost use Rattle.sc_reading.specs.WellFormed.{IsProblem};
+ghost use Rattle.sc_rules.specs.Book.{Book as ABook};
+ghost use Rattle.sc_rules.specs.Start.{Starts};
+ghost use Rattle.sc_rules.specs.Turn.{Turns};
+ghost use Rattle.sc_rules.specs.declared.row.Outcome.TheVariants as outcome;
+ghost use Rattle.sc_keep.specs.State.{NeedsNoEquality};
+ghost use Rattle.sc_core.specs.Counts.{IsCounted};
+ghost use Rattle.sc_core.specs.State.{at_start, IsReached, LeaveInTime};
+ghost use Rattle.sc_core.specs.State.{end_of as spec_end_of};
+
+use crate::end::TurnEnd;
+use crate::turning::{Running, turn};
+use sc_data::Line;
+use sc_fairness::clauses_leave_in_time;
+use sc_interp::Version;
+use sc_keep::Book;
+use sc_problem::Problem;
+use sc_rules::{GivenRow, KeptRow, Outcome};
+use sc_term::Mem;
+use sqlite_items::Items;
+use std::alloc::Global;
+use std::marker::Model;
+
+/// The prover of a problem. Contracts see the problem, the versions that it has seen of each finder, its run and whether
+/// it is whole (`ProverState`). While it is whole, some looks lead to its run (`IsReached`).
+#[derive(Drop)]
+pub struct Prover {
+    alloc: Global,
+    opening: Version,
+    lists: u32,
+    running: Running,
+    whole: bool,
+}
+
+impl Model for Prover {
+    ghost use Rattle.std.specs.Coded.{codes};
+    ghost use Rattle.sc_data.specs.contracts.Term as term;
+    ghost use Rattle.sc_core.specs.State.{ProverState};
+    ghost use Rattle.sc_core.specs.Prover.{IsProver, state_of};
+
+    ghost Value = { ProverState };
+
+    ghost coded = { Prim.hlevel (codes, term.the_row.coded) };
+
+    ghost view = { λ p. state_of p.running p.lists p.whole };
+
+    ghost invariant = { λ p. IsProver p.opening p.running p.lists p.whole };
+}
+
+/// How the start ends the run, where it has the number of an empty clause.
+fn ended_by(goal: Option<u32>) -> Option<Outcome>
+    ensures { result ≡ option_map (λ n. outcome.Proof) goal }
+{
+    match goal {
+        Some(_) => Some(Outcome::Proof),
+        None => None,
+    }
+}
+
+/// What the outcome tells of the end of a turn.
+fn end_of(ended: Option<Outcome>) -> TurnEnd
+    ensures { result ≡ spec_end_of ended }
+{
+    match ended {
+        None => TurnEnd::Went,
+        Some(Outcome::Proof) => TurnEnd::Proof,
+        Some(Outcome::SosEmpty) => TurnEnd::SosEmpty,
+        Some(Outcome::GivenLimit(_)) => TurnEnd::GivenLimit,
+        Some(Outcome::KeptLimit(_)) => TurnEnd::KeptLimit,
+        Some(Outcome::WorkLimit(_)) => TurnEnd::WorkLimit,
+    }
+}
+
+impl Prover {
+    /// The prover after the start of the problem's run, with so many lists of versions, 1 to 8, none of which has one.
+    pub fn new(alloc: Global, problem: &Problem, lists: u32) -> Mem<Prover>
+        requires built { NeedsNoEquality problem.now }
+        requires some { 1 ≤ lists }
+        requires few { lists ≤ 8 }
+        ensures { IfOk result (λ prover. (book : ABook) × (goal : AnOption ℕ) × Starts problem.now book goal × (prover ≡ at_start problem.now lists book goal)) }
+    {
+        let opening = Version::opening(alloc, problem.sig())?;
+        let mut book = Book::new(alloc, problem)?;
+        let goal = book.start()?;
+        let ended = ended_by(goal);
+        Ok(Prover {
+            alloc,
+            opening,
+            lists,
+            running: Running {
+                book,
+                given: Items::new(alloc),
+                ended,
+                goal,
+            },
+            whole: true,
+        })
+    }
+
+    /// One turn with the versions that are seen (`Turns`). The prover has to be whole, and the run not ended.
+    pub fn turn(&mut self) -> Mem<TurnEnd>
+        requires whole { self.old.whole ≡ true }
+        requires going { self.old.run.ended ≡ None }
+        ensures turns { OnOk result (Turns self.old.problem self.old.run self.old.seen self.new.run) }
+        ensures told { IfOk result (λ end. end ≡ spec_end_of self.new.run.ended) }
+        ensures problem { self.new.problem ≡ self.old.problem }
+        ensures seen { self.new.seen ≡ self.old.seen }
+        ensures whole { OnOk result (self.new.whole ≡ true) }
+        ensures halfway { OnErr result (self.new.whole ≡ false) }
+    {
+        match turn(self.alloc, &self.opening, self.lists, &mut self.running) {
+            Ok(()) => Ok(end_of(self.running.ended)),
+            Err(error) => {
+                self.whole = false;
+                Err(error)
+            }
+        }
+    }
+}
+
+impl Prover {
+    /// How the run ended, None exactly while neither the start nor a turn has ended it.
+    pub fn ended(&self) -> Option<TurnEnd>
+        ensures some { IfSome result (λ end. (self.now.run.ended ≢ None) × (end ≡ spec_end_of self.now.run.ended)) }
+        ensures none { IfNone result (self.now.run.ended ≡ None) }
+    {
+        match self.running.ended {
+            Some(outcome) => Some(end_of(Some(outcome))),
+            None => None,
+        }
+    }
+
+    /// How the run ended, with the number of its limit.
+    pub fn outcome(&self) -> Option<Outcome>
+        ensures { result ≡ self.now.run.ended }
+    {
+        self.running.ended
+    }
+
+    /// Whether every turn had enough memory.
+    pub fn is_whole(&self) -> bool
+        ensures { result ≡ self.now.whole }
+    {
+        self.whole
+    }
+
+    /// What every prover keeps; while it is whole, also how many clauses its run has derived, kept and given
+    /// (`IsCounted`).
+    pub fn keeps(&self)
+        ensures problem { IsProblem self.now.problem }
+        ensures reached { self.now.whole ≡ true → IsReached self.now.problem self.now.run }
+        ensures counted { self.now.whole ≡ true → IsCounted self.now.problem self.now.run }
+    {
+        self.running.book.keeps();
+    }
+
+    /// The law that each clause that was put in the set of support leaves it in time (`LeaveInTime`), whatever the
+    /// problem is, while the prover is whole.
+    pub fn leaves_in_time(&self)
+        ensures { self.now.whole ≡ true → LeaveInTime self.now.problem self.now.run }
+    {
+        let _ = &self.whole;
+        clauses_leave_in_time();
+    }
+
+    /// The rows of the given clauses, in order.
+    pub fn given(&self) -> &Items<GivenRow>
+        ensures { result.now ≡ self.now.run.given }
+    {
+        &self.running.given
+    }
+
+    /// The rows of the kept clauses, in order.
+    pub fn kept(&self) -> &Items<KeptRow>
+        ensures { result.now ≡ self.now.run.book.kept }
+    {
+        self.running.book.kept()
+    }
+
+    /// The guide of the next turn: the opening version, where no version is seen.
+    pub fn guide(&self) -> &Version
+        ensures { result.now ≡ versions.opening self.now.problem.symbols }
+    {
+        &self.opening
+    }
+
+    /// The proof of a run that ended with one: the derivations of the empty clause and of all that it needs, put
+    /// together (`IsSplice`).
+    pub fn proof(&self) -> Mem<Items<Line>>
+        requires whole { self.now.whole ≡ true }
+        requires ended { self.now.run.ended ≡ Some outcome.Proof }
+        ensures splice { IfOk result (λ lines. (goal : ℕ) × (self.now.run.goal ≡ Some goal) × IsSplice self.now.problem.inputs self.now.run.book.derived goal lines) }
+        ensures proof { IfOk result (λ lines. IsProof self.now.problem.inputs lines) }
+        ensures refuted { OnOk result (IsRefuted self.now.problem.inputs) }
+    {
+        self.running.book.keeps();
+        match self.running.goal {
+            Some(goal) => {
+                let lines = self.running.book.proof(goal)?;
+                Ok(lines)
+            }
+            // There is one.
+            None => Ok(Items::new(self.alloc)),
+        }
+    }
+}
