@@ -1,23 +1,20 @@
--- What the bytes decide, and what the answer that was written is.
-use Rattle.std.proofs.Common.{◌≡◌, ◌∙◌, sym, ap, refl, subst, ℕ, ◌+◌, ◌-◌, ◌<◌, ◌≤◌, Bool, true, false, IsTrue, List, length, Result, Ok, Err, Option, Some, None, inl, inr, ◌⊎◌, arith}
-use Rattle.std.specs.Prelude.{◌≢◌, nat_lt, IfSome}
+-- What the bytes decide, where they are to be checked.
+use Rattle.std.proofs.Common.{◌≡◌, ◌∙◌, sym, ap, subst, ℕ, ◌+◌, ◌-◌, ◌<◌, ◌≤◌, Bool, true, false, IsTrue, List, length, Result, Ok, Err, inl, inr, arith}
 use Rattle.std.proofs.lemmas.Bool.{cases_order, lt-ltb, le-ltb}
 use Rattle.sc_data.specs.declared.Clause.{Clause}
 use Rattle.sc_data.specs.declared.Line.{Line}
 use Rattle.sc_data.specs.Refuted.{IsRefuted}
-use Rattle.sc_data.specs.Proof.{IsStepAt, AreSteps, EndsFalse, IsProof, IsFirstFault}
+use Rattle.sc_data.specs.Proof.{IsStepAt, IsProof, IsFirstFault}
 use Rattle.sc_reading.specs.declared.fault.Place.{Place}
 use Rattle.sc_reading.specs.declared.fault.InputKind.TheVariants.{TooLong}
 use Rattle.sc_reading.specs.Faults.{place}
 use Rattle.sc_reading.specs.Reading.{StatedItems, items_of}
 use Rattle.sc_written.specs.ProofReading.{proof_of}
 use Rattle.sc_steps.proofs.ModelLaws.{not_all_true}
-use Rattle.sc_base.specs.Causes.{Rose}
-use Rattle.sc_base.specs.Taken.{GrowsByPart}
 use Rattle.sc_top.specs.NoModel.{HasNoModel}
 use Rattle.sc_top.specs.declared.answer.Answer.{Answer}
-use Rattle.sc_top.specs.declared.answer.Answer.TheVariants.{ProofChecked, NotAProof, InputRefused, WordsRefused, ReadFault, OutOfMemory}
-use Rattle.sc_top.specs.Answers.{most_bytes, section_behind, spelled_by_few, spelled, HasProof, HasFault, IsAnswerTo, Stands, IsDecided, status_of, text_of, TellsOf, IsWritten, IsAnswered, IsCutShort}
+use Rattle.sc_top.specs.declared.answer.Answer.TheVariants.{ProofChecked, NotAProof, Ran, InputRefused, WordsRefused, ReadFault, OutOfMemory}
+use Rattle.sc_top.specs.Answers.{most_bytes, section_behind, spelled_by_few, spelled, HasProof, HasFault, IsAnswerTo}
 
 -- refuted clauses have no model over whole numbers
 pub no_model_of : (inputs : List Clause) → IsRefuted inputs → HasNoModel inputs
@@ -129,6 +126,10 @@ one_answer bytes (InputRefused p) (NotAProof n) h k = absurd (not_refused bytes 
 one_answer bytes (InputRefused p) (InputRefused q) h k =
     let same : Err p ≡ Err q = sym h ∙ k in
     ap InputRefused (ap (λ (r : Result (StatedItems × List Line) Place). elim r [ Ok v ↦ p | Err q ↦ q ]) same)
+one_answer bytes (Ran o text) b h k = absurd h
+one_answer bytes (ProofChecked m) (Ran o text) h k = absurd k
+one_answer bytes (NotAProof m) (Ran o text) h k = absurd k
+one_answer bytes (InputRefused p) (Ran o text) h k = absurd k
 one_answer bytes WordsRefused b h k = absurd h
 one_answer bytes ReadFault b h k = absurd h
 one_answer bytes OutOfMemory b h k = absurd h
@@ -141,37 +142,6 @@ one_answer bytes (NotAProof m) OutOfMemory h k = absurd k
 one_answer bytes (InputRefused p) WordsRefused h k = absurd k
 one_answer bytes (InputRefused p) ReadFault h k = absurd k
 one_answer bytes (InputRefused p) OutOfMemory h k = absurd k
-
--- ---- what was written
-
-pub answered : (told : Option (List ℕ)) (before now : ℕ) (old new : Option (List ℕ)) (status : ℕ) (a : Answer) → Stands told before now a
-    → TellsOf (IsWritten old new status) a → IsAnswered told before now old new status
-answered told before now old new status a stands (inl w) = record { answer = a; stands = stands; written = w }
-answered told before now old new status a stands (inr w) = record { answer = OutOfMemory; stands = tt; written = w }
-
-pub cut_short : (told : Option (List ℕ)) (before now : ℕ) (old new : Option (List ℕ)) (a : Answer) → Stands told before now a
-    → TellsOf (λ (a : Answer). GrowsByPart old new (text_of a)) a → IsCutShort told before now old new
-cut_short told before now old new a stands (inl w) = record { answer = a; stands = stands; part = w }
-cut_short told before now old new a stands (inr w) = record { answer = OutOfMemory; stands = tt; part = w }
-
--- an answer that stands and isn't one of the rare ones is the one that the bytes decide
-decided_by : (old new : Option (List ℕ)) (status : ℕ) (bytes : List ℕ) (a b : Answer) → IsAnswerTo bytes b → IsWritten old new status b → IsAnswerTo bytes a → IsWritten old new status a
-decided_by old new status bytes a b h w k = subst (IsWritten old new status) (one_answer bytes b a h k) w
-
-of_told : (before now : ℕ) (old new : Option (List ℕ)) (status : ℕ) (bytes : List ℕ) (b : Answer) → b ≢ WordsRefused → Stands (Some bytes) before now b → IsWritten old new status b → IsDecided old new status bytes
-of_told before now old new status bytes (ProofChecked n) other h w a k = inl (decided_by old new status bytes a (ProofChecked n) h w k)
-of_told before now old new status bytes (NotAProof n) other h w a k = inl (decided_by old new status bytes a (NotAProof n) h w k)
-of_told before now old new status bytes (InputRefused p) other h w a k = inl (decided_by old new status bytes a (InputRefused p) h w k)
-of_told before now old new status bytes WordsRefused other h w a k = absurd (other refl)
-of_told before now old new status bytes ReadFault other h w a k = inr (inl w.is)
-of_told before now old new status bytes OutOfMemory other h w a k = inr (inr w.is)
-
-pub decided : (told : Option (List ℕ)) (before now : ℕ) (old new : Option (List ℕ)) (status : ℕ) (b : Answer) → status_of b ≢ 4 → Stands told before now b
-    → TellsOf (IsWritten old new status) b → IfSome told (IsDecided old new status)
-decided None before now old new status b other h w = tt
-decided (Some bytes) before now old new status b other h (inl w) =
-    of_told before now old new status bytes b (λ e. other (ap status_of e)) h w
-decided (Some bytes) before now old new status b other h (inr w) = λ a k. inr (inr w.is)
 
 -- ---- for the code
 

@@ -1,1 +1,4 @@
+pub mod WordLaws
 pub mod AnswerLaws
+pub mod ProveLaws
+pub mod ToldLaws

@@ -1,8 +1,8 @@
-use Rattle.std.proofs.Common.{sym, subst, ℕ, List}
+use Rattle.std.proofs.Common.{sym, subst, List}
 use Rattle.sc_data.specs.declared.Clause.{Clause}
 use Rattle.sc_data.specs.Refuted.{IsRefuted}
-use Rattle.sc_data.specs.Proof.{IsProof, IsFirstFault}
-use Rattle.sc_top.proofs.AnswerLaws.{has_proof, has_fault}
+use Rattle.sc_data.specs.Proof.{IsProof}
+use Rattle.sc_top.proofs.AnswerLaws.{has_proof}
 use Rattle.sc_top.proofs.judge_lines.Goals as goal
 
 pub returns-in-Ok-clause-decided : goal.returns-in-Ok-clause-decided

@@ -1,0 +1,67 @@
+-- When an answer stands, and what is written of it.
+use Rattle.std.specs.Prelude.{◌≡◌, ℕ, List, ◌⊎◌, ⊤, IfSome, String}
+use Rattle.std.specs.declared.alloc.Global.{Global}
+use Rattle.std.specs.declared.option.Option.{Option}
+use Rattle.sc_base.specs.Causes.{Rose}
+use Rattle.sc_base.specs.Taken.{Grows, GrowsByPart}
+use Rattle.sc_top.specs.declared.commands.Command.{Command}
+use Rattle.sc_top.specs.declared.commands.Command.TheVariants.{Check, Prove}
+use Rattle.sc_top.specs.declared.answer.Answer.{Answer}
+use Rattle.sc_top.specs.declared.answer.Answer.TheVariants.{ProofChecked, NotAProof, Ran, InputRefused, WordsRefused, ReadFault, OutOfMemory}
+use Rattle.sc_top.specs.Words.{Asks}
+use Rattle.sc_top.specs.Answers.{status_of, text_of, IsAnswerTo}
+use Rattle.sc_top.specs.Runs.{IsProveAnswer}
+
+-- the answer that the bytes decide, for the command
+abbrev pub IsAnswerBy : Command → List ℕ → Answer → Type 0
+IsAnswerBy Check bytes a = IsAnswerTo bytes a
+IsAnswerBy Prove bytes a = IsProveAnswer bytes a
+
+-- the words ask for a command, and the bytes decide the answer
+abbrev pub IsAnswerFor : List (String Global) → List ℕ → Answer → Type 0
+IsAnswerFor words bytes a = (command : Command) × Asks words command × IsAnswerBy command bytes a
+
+-- the words ask for no command
+abbrev pub AskForNone : List (String Global) → Type 0
+AskForNone words = (command : Command) → ¬ Asks words command
+
+-- when the answer stands, by the words, the source's bytes, where it tells them, and its counts of faults before and after
+abbrev pub Stands : List (String Global) → Option (List ℕ) → ℕ → ℕ → Answer → Type 0
+Stands words told before now WordsRefused = AskForNone words
+Stands words told before now ReadFault = Rose before now
+Stands words told before now OutOfMemory = ⊤
+Stands words told before now (ProofChecked n) = IfSome told (λ bytes. IsAnswerFor words bytes (ProofChecked n))
+Stands words told before now (NotAProof k) = IfSome told (λ bytes. IsAnswerFor words bytes (NotAProof k))
+Stands words told before now (Ran o text) = IfSome told (λ bytes. IsAnswerFor words bytes (Ran o text))
+Stands words told before now (InputRefused p) = IfSome told (λ bytes. IsAnswerFor words bytes (InputRefused p))
+
+-- ---- what is written
+
+-- the text of the answer was written whole, and its status given
+pub record IsWritten (old new : Option (List ℕ)) (status : ℕ) (a : Answer) : Type 0 where
+  pub is : status ≡ status_of a
+  pub whole : Grows old new (text_of a)
+
+-- what is written of an answer: its text, or that of want of memory in its place
+abbrev pub TellsOf : (Answer → Type 0) → Answer → Type 0
+TellsOf P a = P a ⊎ P OutOfMemory
+
+-- An answer that stands was written: by the source's bytes and counts of faults, and what the sink had taken.
+pub record IsAnswered (words : List (String Global)) (told : Option (List ℕ)) (before now : ℕ) (old new : Option (List ℕ)) (status : ℕ) : Type 0 where
+  pub answer : Answer
+  pub stands : Stands words told before now answer
+  pub written : IsWritten old new status answer
+
+-- an answer stands, but of its text a part alone was written
+pub record IsCutShort (words : List (String Global)) (told : Option (List ℕ)) (before now : ℕ) (old new : Option (List ℕ)) : Type 0 where
+  pub answer : Answer
+  pub stands : Stands words told before now answer
+  pub part : GrowsByPart old new (text_of answer)
+
+-- the answer that the bytes decide was written, unless a fault of the source or want of memory came between
+abbrev pub IsDecided : Command → Option (List ℕ) → Option (List ℕ) → ℕ → List ℕ → Type 0
+IsDecided command old new status bytes = (a : Answer) → IsAnswerBy command bytes a → IsWritten old new status a ⊎ (status ≡ 5) ⊎ (status ≡ 7)
+
+-- there is an answer that the bytes decide, where their problem is to be proved, and it was written whole
+abbrev pub IsRunOf : Option (List ℕ) → Option (List ℕ) → ℕ → List ℕ → Type 0
+IsRunOf old new status bytes = (a : Answer) × IsProveAnswer bytes a × IsWritten old new status a

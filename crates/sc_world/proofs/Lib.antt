@@ -1,0 +1,5 @@
+pub mod RunLaws
+pub mod StartLaws
+pub mod MarkLaws
+pub mod RecordLaws
+pub mod OneRecord

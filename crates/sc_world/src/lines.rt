@@ -1,0 +1,53 @@
+//! The lines of a proof and their marks.
+
+ghost use Rattle.std.specs.Prelude.{◌≡◌, ◌+◌, IfOk};
+ghost use Rattle.sc_rules.specs.Selection.{opening_name};
+ghost use Rattle.sc_world.specs.Recorded.{IsMarkOf, AreMarks};
+
+use sc_data::Line;
+use sc_interp::{Version, VersionName};
+use sc_marks::mark_of;
+use sc_run_written::MarkRow;
+use sc_term::{Mem, OutOfMemory};
+use sqlite_items::Items;
+use std::alloc::Global;
+
+/// The name of the opening version.
+const OPENING: VersionName = VersionName {
+    finder: 0,
+    place: 0,
+};
+
+/// The number, from 1, of the line at this index, from 0. No list of 2^32 lines fits into memory.
+fn line_number(index: usize) -> Mem<u32>
+    ensures { IfOk result (λ n. n ≡ index + 1) }
+{
+    if index >= u32::MAX as usize {
+        return Err(OutOfMemory);
+    }
+    Ok(index as u32 + 1)
+}
+
+/// The row of the line of that number, with its mark in the opening version.
+fn mark_row(alloc: Global, opening: &Version, number: u32, line: &Line) -> Mem<MarkRow>
+    ensures { IfOk result (λ row. IsMarkOf opening_name opening.now number line.now row) }
+{
+    let truth = mark_of(alloc, opening.tables(), &line.clause)?;
+    Ok(MarkRow {
+        line: number,
+        name: OPENING,
+        truth,
+    })
+}
+
+/// The marks of the lines in the opening version.
+pub fn mark_rows(alloc: Global, opening: &Version, lines: &[Line]) -> Mem<Items<MarkRow>>
+    ensures { IfOk result (AreMarks opening_name opening.now lines.now) }
+{
+    let mut rows = Items::new(alloc);
+    for (i, line) in lines.iter().enumerate() {
+        let number = line_number(i)?;
+        rows.push(mark_row(alloc, opening, number, line)?)?;
+    }
+    Ok(rows)
+}
