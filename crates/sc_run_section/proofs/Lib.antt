@@ -1,0 +1,13 @@
+pub mod RowsInTurn
+pub mod Counting
+pub mod FillingTables
+pub mod VersionsByFinder
+pub mod RowsSeen
+pub mod TablesInTurn
+pub mod EntriesInTurn
+pub mod OneTable
+pub mod MadeTables
+pub mod VersionsInTurn
+pub mod PuttingVersions
+pub mod OneVersion
+pub mod OneRun
