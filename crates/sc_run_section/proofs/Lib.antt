@@ -11,3 +11,7 @@ pub mod VersionsInTurn
 pub mod PuttingVersions
 pub mod OneVersion
 pub mod OneRun
+pub mod RunEnds
+pub mod PrefixOfRows
+pub mod PrefixOfVersions
+pub mod PrefixOfRuns
