@@ -15,3 +15,4 @@ pub mod RunEnds
 pub mod PrefixOfRows
 pub mod PrefixOfVersions
 pub mod PrefixOfRuns
+pub mod RowsSpelt
