@@ -11,7 +11,8 @@
 //! It stands on the readers of one token (`sc_scan`), of clauses and proof sections (`sc_section`), and on the tables
 //! of `sc_interp`. Callers may rest on the clause of `read_run_section` and on two laws (`proofs/`): what a run text
 //! leaves is an end of what it was given (`run-end`), and the first tokens of a text decide what is read of it
-//! (`good_run`). Time is linear in the tokens read but for the look at each symbol's name.
+//! (`good_run`). `RowsSpelt` says what a row spells. Time is linear in the tokens read but for the look at each symbol's
+//! name.
 #![tactic(auto)]
 
 mod fill;
