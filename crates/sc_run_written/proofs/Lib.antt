@@ -1,1 +1,1 @@
-mod RunExamples
+pub mod RunExamples

@@ -34,7 +34,7 @@ tables s = (0 ∷ 1 ∷ []) ∷ (1 ∷ []) ∷ (s ∷ []) ∷ (0 ∷ 0 ∷ []) �
 abbrev version : ℕ → List ℕ → VersionValue
 version s claims = record { size = 2; entries = tables s; claims = claims }
 
-abbrev run : RunValue
+abbrev pub run : RunValue
 run =
     record {
       ratio = 5;
@@ -50,7 +50,7 @@ run =
       marks = [];
     }
 
-abbrev text : List ℕ
+abbrev pub text : List ℕ
 text = codes "run.\nlists 1.\nratio 5.\nversion 1 0 2.\npredicate p 1 : 0 1.\nfunction a 0 : 1.\npredicate s 0 : 0.\npredicate q 1 : 0 0.\nfunction b 0 : 0.\nclaims 1.\nversion 1 1 2.\npredicate p 1 : 0 1.\nfunction a 0 : 1.\npredicate s 0 : 1.\npredicate q 1 : 0 0.\nfunction b 0 : 0.\nclaims 1 2.\nversion 1 2 2.\npredicate p 1 : 0 1.\nfunction a 0 : 1.\npredicate s 0 : 1.\npredicate q 1 : 0 0.\nfunction b 0 : 0.\nclaims 1 2 3.\ngiven 1 2 weight 0 0 false 0.\ngiven 2 4 false 1 0 false 1.\ngiven 3 3 weight 1 1 true 2.\nfinder 1 stopped.\nend sos_empty.\nend_of_run.\n"
 
 printed : run_text symbols run ≡ text
@@ -74,7 +74,7 @@ given turn number truth = record { turn = turn; number = number; cause = cause.W
 abbrev mark : ℕ → Truth → MarkRow
 mark line truth = record { line = line; name = name_0; truth = truth }
 
-abbrev proved : RunValue
+abbrev pub proved : RunValue
 proved =
     record {
       ratio = 5;
@@ -87,7 +87,7 @@ proved =
       marks = mark 1 truth.False ∷ mark 2 truth.True ∷ mark 3 truth.True ∷ mark 4 truth.True ∷ mark 5 truth.False ∷ mark 6 truth.False ∷ [];
     }
 
-abbrev proved_text : List ℕ
+abbrev pub proved_text : List ℕ
 proved_text = codes "run.\nlists 1.\nratio 5.\ngiven 1 1 weight 0 0 false 0.\ngiven 2 3 weight 0 0 true 0.\ngiven 3 2 weight 0 0 true 0.\nkept 4 3 2 : q(a).\nfinder 1 done.\nend proof.\nproof.\n1 input 1 : p(a).\n2 input 2 : -p(x0) | q(x0).\n3 input 3 : -q(a).\n4 instance 2 (a) : -p(a) | q(a).\n5 resolve 4 1 1 1 : q(a).\n6 resolve 5 1 3 1 : $F.\nend_of_proof.\nmark 1 0 0 false.\nmark 2 0 0 true.\nmark 3 0 0 true.\nmark 4 0 0 true.\nmark 5 0 0 false.\nmark 6 0 0 false.\nend_of_run.\n"
 
 proved_printed : run_text example.symbols proved ≡ proved_text

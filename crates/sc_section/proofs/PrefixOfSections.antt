@@ -76,7 +76,7 @@ good_lines (suc n) (suc m) symbols number =
 
 -- ---- sections
 
-good_heading : (n m : ℕ) (name : List ℕ) → Good n m (the_heading name) (the_heading name)
+pub good_heading : (n m : ℕ) (name : List ℕ) → Good n m (the_heading name) (the_heading name)
 good_heading n m name = good_then n m (the_word name) (λ u. the_sign Stop) (good_the_word n m name) (λ u. good_sign n m Stop)
 
 abbrev lines_at : List Symbol → List Token → Read (List Line)
@@ -88,7 +88,7 @@ section_2 lines ts = bound (the_heading (codes "end_of_proof") ts) (λ u ts. Ok 
 abbrev section_1 : List Symbol → List Token → Read (List Line)
 section_1 symbols ts = bound (lines_at symbols ts) section_2
 
-good_proof_section : (n m : ℕ) (symbols : List Symbol) → Good n m (proof_section symbols) (proof_section symbols)
+pub good_proof_section : (n m : ℕ) (symbols : List Symbol) → Good n m (proof_section symbols) (proof_section symbols)
 good_proof_section n m symbols =
     good_then n m (the_heading (codes "proof")) (λ u. section_1 symbols) (good_heading n m (codes "proof")) (λ u.
     good_then n m (lines_at symbols) section_2 (good_whole (λ k. lines_within k symbols 1) (λ k. lines-shrinks k symbols 1) (λ k l. good_lines k l symbols 1) n m) (λ lines.

@@ -28,7 +28,7 @@ fn clause_from(alloc: Global, sig: &Signature, written: &[WrittenLiteral]) -> Me
     Ok(Clause { literals })
 }
 
-/// A clause and its full stop.
+/// A clause and its full stop. The number of a variable that is greater than 4,294,967,295 is answered as that.
 pub fn read_text_clause<'a>(
     alloc: Global,
     sig: &Signature,

@@ -7,7 +7,8 @@
 //! is read, so no more than one is kept as it is written.
 //!
 //! It stands on the readers of clauses and sides in `sc_grammar`, and on `sc_problem`, which makes terms of names.
-//! Callers may rest on the clause of `read_section` and on two laws (`proofs/`): what a section leaves is an end of
+//! Callers may rest on the clause of `read_section`, on those of its parts that run texts have too (`proof_section`,
+//! `read_text_clause`, `the_heading`, `numeral_value`), and on two laws (`proofs/`): what a section leaves is an end of
 //! what it was given, and the first tokens of a text decide what is read of it. Time is linear in the tokens read but
 //! for the look at each symbol's name; sides are read by recursion as deep as their parentheses nest.
 #![tactic(auto)]
@@ -20,4 +21,6 @@ mod terms;
 #[cfg(test)]
 mod tests;
 
-pub use section::read_section;
+pub use clause::read_text_clause;
+pub use number::numeral_value;
+pub use section::{proof_section, read_section, the_heading};

@@ -65,15 +65,15 @@ fn read_lines<'a>(
 }
 
 /// A word and a full stop.
-fn the_heading<'a>(name: &[u8], tokens: &'a [Token]) -> Result<&'a [Token], Stop>
+pub fn the_heading<'a>(name: &[u8], tokens: &'a [Token]) -> Result<&'a [Token], Stop>
     ensures { Gives (λ x. (tt, x.now)) result (of.the_heading name.now tokens.now) }
 {
     let rest = the_word(name, tokens)?;
     the_sign(Sign::Stop, rest)
 }
 
-/// `proof.`, the lines and `end_of_proof.`, and what stands behind.
-fn proof_section<'a>(
+/// `proof.`, the lines and `end_of_proof.`, and what stands behind. Numbers are answered as in `read_section`.
+pub fn proof_section<'a>(
     alloc: Global,
     sig: &Signature,
     tokens: &'a [Token],

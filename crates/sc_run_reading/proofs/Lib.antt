@@ -1,0 +1,2 @@
+mod RunExamples
+mod RunFaults

@@ -1,0 +1,5 @@
+pub mod RowWords
+pub mod VersionGrammar
+pub mod RowGrammar
+pub mod RunSection
+pub mod RunReading

@@ -1,0 +1,4 @@
+pub mod Expected
+pub mod Entries
+pub mod Filling
+pub mod Seen

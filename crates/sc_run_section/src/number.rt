@@ -1,0 +1,84 @@
+//! Reading a number of a row.
+
+ghost use Rattle.std.specs.Prelude.{◌≡◌, ◌≤◌, ◌<◌, ◌-◌, ◌^◌, not, ◌&&◌, ◌||◌, true, nat_le, nat_lt, IfOk};
+ghost use Rattle.sc_scan.specs.Told.{Gives};
+ghost use Rattle.sc_run_reading.specs.RowWords as of;
+ghost use Rattle.sc_run_section.specs.Expected.{passes, IsSmall};
+
+use sc_reading::{InputKind, Token};
+use sc_scan::{Stop, a_word, stop_at};
+use sc_section::numeral_value;
+
+/// Which numbers may stand at a place: any, this one, this one and all above, or those from one to another.
+#[derive(Clone, Copy, Debug, PartialEq, Eq)]
+pub enum Expected {
+    Any,
+    Exactly(u64),
+    AtLeast(u64),
+    Between(u64, u64),
+}
+
+fn is_expected(expected: Expected, value: u64) -> bool
+    ensures { result ≡ passes expected value }
+{
+    match expected {
+        Expected::Any => true,
+        Expected::Exactly(number) => value == number,
+        Expected::AtLeast(least) => least <= value,
+        Expected::Between(first, last) => first <= value && value <= last,
+    }
+}
+
+/// Whether as many digits may write the value.
+fn is_in_range(low: u32, high: u32, value: u64, digits: usize) -> bool
+    ensures { result ≡ (nat_le low value && not (nat_lt 10 digits || nat_lt high value)) }
+{
+    u64::from(low) <= value && !(10 < digits || u64::from(high) < value)
+}
+
+/// A number of those expected. It is out of range where it isn't from `low` to `high` or has more than 10 digits.
+pub fn number_in(
+    expected: Expected,
+    low: u32,
+    high: u32,
+    tokens: &[Token],
+) -> Result<(u32, &[Token]), Stop>
+    requires { IsSmall expected }
+    ensures value { Gives (λ x. (x.0, x.1.now)) result (of.a_number_in (passes expected) low high tokens.now) }
+    ensures range { IfOk result (λ x. (low ≤ x.0) × (x.0 ≤ high)) }
+{
+    let (_, text, rest) = a_word(tokens)?;
+    match numeral_value(text.as_slice()) {
+        Some(value) if is_expected(expected, value) => {
+            if is_in_range(low, high, value, text.len()) {
+                Ok((value as u32, rest))
+            } else {
+                Err(Stop::At(tokens.len(), InputKind::OutOfRange))
+            }
+        }
+        _ => Err(stop_at(tokens)),
+    }
+}
+
+/// Any number from `low` to `high`.
+pub fn number_from(low: u32, high: u32, tokens: &[Token]) -> Result<(u32, &[Token]), Stop>
+    ensures value { Gives (λ x. (x.0, x.1.now)) result (of.a_number_from low high tokens.now) }
+    ensures range { IfOk result (λ x. (low ≤ x.0) × (x.0 ≤ high)) }
+{
+    number_in(Expected::Any, low, high, tokens)
+}
+
+/// Any number.
+pub fn row_number(tokens: &[Token]) -> Result<(u32, &[Token]), Stop>
+    ensures { Gives (λ x. (x.0, x.1.now)) result (of.a_row_number tokens.now) }
+{
+    number_from(0, u32::MAX, tokens)
+}
+
+/// This number.
+pub fn the_row_number(number: u64, tokens: &[Token]) -> Result<(u32, &[Token]), Stop>
+    requires { number < 2 ^ 64 - 1 }
+    ensures { Gives (λ x. (x.0, x.1.now)) result (of.the_row_number number tokens.now) }
+{
+    number_in(Expected::Exactly(number), 0, u32::MAX, tokens)
+}
