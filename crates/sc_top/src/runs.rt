@@ -1,47 +1,19 @@
 //! The answer to a problem that is to be proved.
 
-ghost use Rattle.std.specs.Prelude.{◌≡◌, ◌≢◌, ◌≤◌, ◌↔◌, ◌⊎◌, ℕ, List, Ok, false, All, IsTrue, IfOk, length};
-ghost use Rattle.sc_reading.specs.declared.settings.Home.TheVariants as home;
+ghost use Rattle.std.specs.Prelude.{◌≡◌, ◌≢◌, ◌≤◌, ◌⊎◌, ℕ, List, Ok, IfOk, length};
 ghost use Rattle.sc_keep.specs.State.{NeedsNoEquality};
 ghost use Rattle.sc_top.specs.declared.answer.Answer.TheVariants.{OutOfMemory};
 ghost use Rattle.sc_top.specs.Answers.{status_of};
 ghost use Rattle.sc_top.specs.Runs.{spelled_problem, IsProveAnswer};
 
 use crate::answer::Answer;
-use sc_input::{Flags, Home, InputError, InputKind, Place, Problem, read_problem};
+use sc_input::{InputError, InputKind, Place, Problem, read_problem};
+use sc_keep::needs_no_equality;
 use sc_print_run::print_run;
 use sc_term::Mem;
 use sc_world::prove_alone;
 use sqlite_items::Items;
 use std::alloc::Global;
-
-fn have_no_demodulator(homes: &[Home]) -> bool
-    ensures { IsTrue result ↔ All (λ place. place ≢ home.Demodulators) homes.now }
-{
-    for place in homes {
-        if *place == Home::Demodulators {
-            return false;
-        }
-    }
-    true
-}
-
-fn are_without_equality(flags: Flags) -> bool
-    ensures { IsTrue result ↔ ((flags.para_from ≡ false) × (flags.para_into ≡ false) × (flags.unit_deletion ≡ false) × (flags.dynamic_demod ≡ false) × (flags.back_demod ≡ false)) }
-{
-    !flags.para_from
-        && !flags.para_into
-        && !flags.unit_deletion
-        && !flags.dynamic_demod
-        && !flags.back_demod
-}
-
-/// Whether the problem asks for no step on equality.
-fn needs_no_equality(problem: &Problem) -> bool
-    ensures { IsTrue result ↔ NeedsNoEquality problem.now }
-{
-    have_no_demodulator(problem.homes().as_slice()) && are_without_equality(problem.flags())
-}
 
 /// The text of the run of the problem.
 fn run(alloc: Global, problem: &Problem) -> Mem<Answer>
