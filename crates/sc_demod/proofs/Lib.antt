@@ -4,6 +4,7 @@ pub mod OrientLaws
 pub mod FitLaws
 pub mod WeightLaws
 pub mod FindLaws
+pub mod RedexLaws
 pub mod PartLaws
 pub mod LeastLaws
 pub mod CutLaws

@@ -20,9 +20,20 @@ IsWithin t (i ∷ path) s = (f : SymId) × (args : List Term) × (t ≡ App f ar
 abbrev pub IsReducible : List Numbered → Term → Type 0
 IsReducible demods s = IsCompound s × ((d : Numbered) × Contains demods d × Fits d s)
 
+-- a demodulator fits s
+abbrev pub FitsSome : List Numbered → Term → Type 0
+FitsSome demods s = (d : Numbered) × Contains demods d × Fits d s
+
 -- the subterms, of which At says what stands where, have no redex
 abbrev pub FindsNone : List Numbered → (List ℕ → Term → Type 0) → Type 0
 FindsNone demods At = (path : List ℕ) (s : Term) → At path s → ¬ IsReducible demods s
+
+-- one of them is a redex
+pub record FindsSome (demods : List Numbered) (At : List ℕ → Term → Type 0) : Type 0 where
+  pub path : List ℕ
+  pub redex : Term
+  pub there : At path redex
+  pub reducible : IsReducible demods redex
 
 -- the first redex among them is at this path, and the first demodulator that fits at this place of the list
 pub record Finds (demods : List Numbered) (At : List ℕ → Term → Type 0) (path : List ℕ) (place : ℕ) (terms : List Term) : Type 0 where

@@ -102,8 +102,8 @@ fn cut(
     Ok(after)
 }
 
-/// `unit_delete` by units in rising order of their numbers.
-fn delete_all(alloc: Global, made: Made, units: &[&Numbered]) -> Mem<Made>
+/// `unit_delete` by references to units in rising order of their numbers, as a caller may keep them.
+pub fn unit_delete_by(alloc: Global, made: Made, units: &[&Numbered]) -> Mem<Made>
     requires rising { AllPairs (λ p q. p.number < q.number) (seen units.now) }
     requires checks { ChecksWith (seen units.now) made.lines }
     ensures deletes { IfOk result (λ after. Exhausts (DeletesOnce (seen units.now)) made.lines after.lines) }
@@ -136,5 +136,5 @@ pub fn unit_delete(alloc: Global, made: Made, units: &Items<Numbered>) -> Mem<Ma
     ensures checks { IfOk result (λ after. KeepsChecking units.now made.lines after.lines) }
 {
     let ordered = by_number(alloc, units.as_slice())?;
-    delete_all(alloc, made, ordered.as_slice())
+    unit_delete_by(alloc, made, ordered.as_slice())
 }
