@@ -1,0 +1,13 @@
+pub mod TriedLaws
+pub mod LeftLaws
+pub mod SearchLaws
+pub mod PrefixLaws
+pub mod OpenLaws
+pub mod OneLaws
+pub mod InstanceLaws
+pub mod SearchingLaws
+pub mod JobLaws
+pub mod TableLaws
+pub mod StepLaws
+pub mod PieceLaws
+pub mod CellTables

@@ -1,0 +1,10 @@
+use Rattle.sc_find.proofs.PieceLaws.{first_model, no_model}
+use Rattle.sc_find.proofs.find.found.Goals as goal
+
+pub returns-in_ok-tables_with-in-Full : goal.returns-in_ok-tables_with-in-Full
+returns-in_ok-tables_with-in-Full c =
+    first_model c.args.job.now c.args.value c.args.given.now.cells c.search.new.given c.values.result.now c.in_ok-tables_with-in-Full.field-0 c.requires.cells c.in-Full.ensures c.values.ensures
+    c.in_ok-tables_with-in-Full.ensures
+
+pub returns-in-Exhausted : goal.returns-in-Exhausted
+returns-in-Exhausted c = no_model c.args.job.now c.args.value c.args.given.now.cells c.requires.cells c.in-Exhausted.ensures

@@ -1,0 +1,169 @@
+use Rattle.std.proofs.Common.{arith}
+use Rattle.sc_find.proofs.StepLaws as step
+use Rattle.sc_find.proofs.StepLaws.{IsAt}
+use Rattle.sc_find.proofs.search.search.Goals as goal
+
+pub enters-requires-clause-before : goal.enters-requires-clause-before
+enters-requires-clause-before c =
+    step.consistent_so_far c.args.job.now c.args.piece c.args.given.now.cells c.loop-piece.given c.loop-piece.next c.loop-piece.nodes c.loop-piece.invariant.cells c.loop-piece.invariant.searching
+
+pub returns-then-nodes-budget : goal.returns-then-nodes-budget
+returns-then-nodes-budget c =
+    let given = c.loop-piece.given in
+    let start = c.args.given.now.cells in
+    let now : IsAt c.args.job.now c.args.piece start given c.loop-piece.next c.loop-piece.nodes c.len-number.result c.count_values_at.result c.end_value-end.result = record {
+      cells = c.loop-piece.invariant.cells;
+      searching = c.loop-piece.invariant.searching;
+      are = c.requires.cells;
+      at_number = c.len-number.ensures.value;
+      within = omega (arith, c.loop-piece-test.true, c.len.ensures.value, c.cell_len.ensures.value);
+      counted = c.count_values_at.ensures.value;
+      small = c.count_values_at.ensures.small;
+      end_is = c.end_value-end.ensures;
+    } in
+    step.spent_at c.args.job.now c.args.piece start given c.loop-piece.next c.loop-piece.nodes c.len-number.result c.count_values_at.result c.end_value-end.result now c.args.budget c.if-next-end.true c.if-nodes-budget.true (c.enters.ensures.consistent c.if-enters.true)
+
+pub overflow_add-nodes : goal.overflow_add-nodes
+overflow_add-nodes c =
+    let most = c.loop-piece.invariant.within in
+    let other = c.if-nodes-budget.false in
+    omega (arith, most, other, c.ranges.budget.fits)
+
+pub loop-piece-smaller-then-enters : goal.loop-piece-smaller-then-enters
+loop-piece-smaller-then-enters c =
+    let given = c.loop-piece.given in
+    let start = c.args.given.now.cells in
+    let now : IsAt c.args.job.now c.args.piece start given c.loop-piece.next c.loop-piece.nodes c.len-number.result c.count_values_at.result c.end_value-end.result = record {
+      cells = c.loop-piece.invariant.cells;
+      searching = c.loop-piece.invariant.searching;
+      are = c.requires.cells;
+      at_number = c.len-number.ensures.value;
+      within = omega (arith, c.loop-piece-test.true, c.len.ensures.value, c.cell_len.ensures.value);
+      counted = c.count_values_at.ensures.value;
+      small = c.count_values_at.ensures.small;
+      end_is = c.end_value-end.ensures;
+    } in
+    step.less_entered c.args.job.now c.args.piece start given c.loop-piece.next c.loop-piece.nodes c.len-number.result c.count_values_at.result c.end_value-end.result now c.enters.new.given c.if-next-end.true (c.enters.ensures.entered c.if-enters.true)
+
+pub loop-piece-preserved-then-enters : goal.loop-piece-preserved-then-enters
+loop-piece-preserved-then-enters c =
+    let given = c.loop-piece.given in
+    let start = c.args.given.now.cells in
+    let now : IsAt c.args.job.now c.args.piece start given c.loop-piece.next c.loop-piece.nodes c.len-number.result c.count_values_at.result c.end_value-end.result = record {
+      cells = c.loop-piece.invariant.cells;
+      searching = c.loop-piece.invariant.searching;
+      are = c.requires.cells;
+      at_number = c.len-number.ensures.value;
+      within = omega (arith, c.loop-piece-test.true, c.len.ensures.value, c.cell_len.ensures.value);
+      counted = c.count_values_at.ensures.value;
+      small = c.count_values_at.ensures.small;
+      end_is = c.end_value-end.ensures;
+    } in
+    let both = step.entered_at c.args.job.now c.args.piece start given c.loop-piece.next c.loop-piece.nodes c.len-number.result c.count_values_at.result c.end_value-end.result now c.enters.new.given c.if-next-end.true (c.enters.ensures.entered c.if-enters.true) (c.enters.ensures.consistent c.if-enters.true) in
+    let most = c.loop-piece.invariant.within in
+    let other = c.if-nodes-budget.false in
+    record { cells = both.0; within = omega (arith, most, other); searching = both.1 }
+
+pub loop-piece-smaller-else-enters : goal.loop-piece-smaller-else-enters
+loop-piece-smaller-else-enters c =
+    let given = c.loop-piece.given in
+    let start = c.args.given.now.cells in
+    let now : IsAt c.args.job.now c.args.piece start given c.loop-piece.next c.loop-piece.nodes c.len-number.result c.count_values_at.result c.end_value-end.result = record {
+      cells = c.loop-piece.invariant.cells;
+      searching = c.loop-piece.invariant.searching;
+      are = c.requires.cells;
+      at_number = c.len-number.ensures.value;
+      within = omega (arith, c.loop-piece-test.true, c.len.ensures.value, c.cell_len.ensures.value);
+      counted = c.count_values_at.ensures.value;
+      small = c.count_values_at.ensures.small;
+      end_is = c.end_value-end.ensures;
+    } in
+    step.less_refused c.args.job.now c.args.piece start given c.loop-piece.next c.loop-piece.nodes c.len-number.result c.count_values_at.result c.end_value-end.result now c.enters.new.given c.if-next-end.true (c.enters.ensures.kept c.if-enters.false)
+
+pub loop-piece-preserved-else-enters : goal.loop-piece-preserved-else-enters
+loop-piece-preserved-else-enters c =
+    let given = c.loop-piece.given in
+    let start = c.args.given.now.cells in
+    let now : IsAt c.args.job.now c.args.piece start given c.loop-piece.next c.loop-piece.nodes c.len-number.result c.count_values_at.result c.end_value-end.result = record {
+      cells = c.loop-piece.invariant.cells;
+      searching = c.loop-piece.invariant.searching;
+      are = c.requires.cells;
+      at_number = c.len-number.ensures.value;
+      within = omega (arith, c.loop-piece-test.true, c.len.ensures.value, c.cell_len.ensures.value);
+      counted = c.count_values_at.ensures.value;
+      small = c.count_values_at.ensures.small;
+      end_is = c.end_value-end.ensures;
+    } in
+    let both = step.refused_at c.args.job.now c.args.piece start given c.loop-piece.next c.loop-piece.nodes c.len-number.result c.count_values_at.result c.end_value-end.result now c.enters.new.given c.if-next-end.true (c.enters.ensures.kept c.if-enters.false) (c.enters.ensures.refused c.if-enters.false) in
+    record { cells = both.0; within = c.loop-piece.invariant.within; searching = both.1 }
+
+pub returns-then-number-eq0 : goal.returns-then-number-eq0
+returns-then-number-eq0 c =
+    let given = c.loop-piece.given in
+    let start = c.args.given.now.cells in
+    let now : IsAt c.args.job.now c.args.piece start given c.loop-piece.next c.loop-piece.nodes c.len-number.result c.count_values_at.result c.end_value-end.result = record {
+      cells = c.loop-piece.invariant.cells;
+      searching = c.loop-piece.invariant.searching;
+      are = c.requires.cells;
+      at_number = c.len-number.ensures.value;
+      within = omega (arith, c.loop-piece-test.true, c.len.ensures.value, c.cell_len.ensures.value);
+      counted = c.count_values_at.ensures.value;
+      small = c.count_values_at.ensures.small;
+      end_is = c.end_value-end.ensures;
+    } in
+    step.exhausted_at c.args.job.now c.args.piece start given c.loop-piece.next c.loop-piece.nodes c.len-number.result c.count_values_at.result c.end_value-end.result now c.if-next-end.false c.if-number-eq0.true
+
+pub overflow_add-next-else-next-end : goal.overflow_add-next-else-next-end
+overflow_add-next-else-next-end c =
+    let given = c.loop-piece.given in
+    let start = c.args.given.now.cells in
+    let now : IsAt c.args.job.now c.args.piece start given c.loop-piece.next c.loop-piece.nodes c.len-number.result c.count_values_at.result c.end_value-end.result = record {
+      cells = c.loop-piece.invariant.cells;
+      searching = c.loop-piece.invariant.searching;
+      are = c.requires.cells;
+      at_number = c.len-number.ensures.value;
+      within = omega (arith, c.loop-piece-test.true, c.len.ensures.value, c.cell_len.ensures.value);
+      counted = c.count_values_at.ensures.value;
+      small = c.count_values_at.ensures.small;
+      end_is = c.end_value-end.ensures;
+    } in
+    let small = step.top_small c.args.job.now c.args.piece start given c.loop-piece.next c.loop-piece.nodes c.len-number.result c.count_values_at.result c.end_value-end.result now c.pop-next.new.self c.pop-next.result c.pop-next.ensures in
+    omega (arith, small)
+
+pub loop-piece-smaller : goal.loop-piece-smaller
+loop-piece-smaller c =
+    let given = c.loop-piece.given in
+    let start = c.args.given.now.cells in
+    let now : IsAt c.args.job.now c.args.piece start given c.loop-piece.next c.loop-piece.nodes c.len-number.result c.count_values_at.result c.end_value-end.result = record {
+      cells = c.loop-piece.invariant.cells;
+      searching = c.loop-piece.invariant.searching;
+      are = c.requires.cells;
+      at_number = c.len-number.ensures.value;
+      within = omega (arith, c.loop-piece-test.true, c.len.ensures.value, c.cell_len.ensures.value);
+      counted = c.count_values_at.ensures.value;
+      small = c.count_values_at.ensures.small;
+      end_is = c.end_value-end.ensures;
+    } in
+    step.less_back c.args.job.now c.args.piece start given c.loop-piece.next c.loop-piece.nodes c.len-number.result c.count_values_at.result c.end_value-end.result now c.pop-next.new.self c.pop-next.result c.pop-next.ensures
+
+pub loop-piece-preserved : goal.loop-piece-preserved
+loop-piece-preserved c =
+    let given = c.loop-piece.given in
+    let start = c.args.given.now.cells in
+    let now : IsAt c.args.job.now c.args.piece start given c.loop-piece.next c.loop-piece.nodes c.len-number.result c.count_values_at.result c.end_value-end.result = record {
+      cells = c.loop-piece.invariant.cells;
+      searching = c.loop-piece.invariant.searching;
+      are = c.requires.cells;
+      at_number = c.len-number.ensures.value;
+      within = omega (arith, c.loop-piece-test.true, c.len.ensures.value, c.cell_len.ensures.value);
+      counted = c.count_values_at.ensures.value;
+      small = c.count_values_at.ensures.small;
+      end_is = c.end_value-end.ensures;
+    } in
+    let both = step.back_at c.args.job.now c.args.piece start given c.loop-piece.next c.loop-piece.nodes c.len-number.result c.count_values_at.result c.end_value-end.result now c.pop-next.new.self c.pop-next.result c.if-next-end.false c.pop-next.ensures in
+    record { cells = both.0; within = c.loop-piece.invariant.within; searching = both.1 }
+
+pub returns : goal.returns
+returns c =
+    step.full_at c.args.job.now c.args.piece c.args.given.now.cells c.loop-piece.given c.loop-piece.next c.loop-piece.nodes c.loop-piece.invariant.cells c.loop-piece.invariant.searching
+    (omega (arith, c.loop-piece-test.false, c.len.ensures.value, c.cell_len.ensures.value))

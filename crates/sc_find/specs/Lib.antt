@@ -1,0 +1,4 @@
+pub mod Models
+pub mod Prepared
+pub mod Answers
+pub mod Search

@@ -1,0 +1,27 @@
+//! Search for the first model of clauses over the elements of a size.
+//!
+//! A `Job` is a signature, clauses and a size of 1 to 8. `find_first` answers the tables of the model whose values come
+//! first (cells in order, values rising), that there is none, or that a plain search has more nodes than a budget;
+//! `find_by_pieces` asks so for the values of cell 0, one after another. `specs/Models` says what each answer means.
+//!
+//! It stands on `sc_cells` (cells and instances), on `sc_given` (which literals are false by the values so far) and on
+//! `sc_interp` (tables). The search keeps one list of values, so that no node allocates, and after a value looks only at
+//! the instances that may read its cell.
+#![tactic(auto)]
+
+mod answer;
+mod checking;
+mod find;
+mod job;
+mod pieces;
+mod readers;
+mod search;
+mod tables;
+
+pub use answer::{Found, FoundAll, JobError, Piece};
+pub use find::find_first;
+pub use job::Job;
+pub use pieces::find_by_pieces;
+
+#[cfg(test)]
+mod tests;
