@@ -1,0 +1,14 @@
+pub mod Sentences
+pub mod Parts
+pub mod NumbersBack
+pub mod RowsPass
+pub mod PlainRows
+pub mod RowsInTurn
+pub mod SmallRows
+pub mod KeptRows
+pub mod TableRows
+pub mod VersionRows
+pub mod PlacedLists
+pub mod SectionBack
+pub mod RunBack
+pub mod RunBackExample

@@ -1,0 +1,99 @@
+//! The reader of run texts.
+
+ghost use Rattle.std.specs.Prelude.{◌≡◌, Ok, IfOk, IfErr};
+ghost use Rattle.sc_reading.specs.Tokens as spec;
+ghost use Rattle.sc_input.specs.Refusal.{Refuses};
+ghost use Rattle.sc_input.specs.Answer.{read_at, answer, Tells};
+ghost use Rattle.sc_run_written.specs.RunValue.{run_value};
+ghost use Rattle.sc_run_reading.specs.RunReading.{run_of};
+ghost use Rattle.sc_run_text.specs.Answer.{clipped_section, judged_tokens};
+
+use sc_input::{InputError, fault_at, first_byte, last_tokens};
+use sc_reading::{Place, Token};
+use sc_run_section::read_run_section;
+use sc_run_written::RunText;
+use sc_scan::{Stop, scan};
+use sc_section_limits::first_limit;
+use sc_term::{Mem, Signature};
+use sqlite_items::Items;
+use std::alloc::Global;
+
+/// The tokens of the bytes from one on, none where no byte is left.
+#[tactic(auto, using(crate::proofs::Laws::same_tokens))]
+fn tokens_behind(alloc: Global, bytes: &[u8], from: u64) -> Mem<Items<Token>>
+    ensures { IfOk result (λ ts. ts ≡ spec.tokens_behind from bytes.now) }
+{
+    scan(alloc, bytes, (from as usize).min(bytes.len()))
+}
+
+fn run_at(run: RunText, at: Result<u64, Place>) -> Result<(RunText, u64), InputError>
+    ensures { Tells (λ x. (run_value x.0, x.1)) result (read_at (run_value run) at) }
+{
+    match at {
+        Ok(at) => Ok((run, at)),
+        Err(place) => Err(InputError::Refused(place)),
+    }
+}
+
+/// What is read of tokens that pass no limit, or only with the last of them. Behind them stands the byte at which the
+/// text ends, or that limit: it is the answer where they are read to their end.
+#[tactic(auto, using(crate::proofs::Laws::up_to))]
+fn read_up_to(
+    alloc: Global,
+    sig: &Signature,
+    behind: Result<u64, Place>,
+    tokens: &[Token],
+) -> Result<(RunText, u64), InputError>
+    ensures { Tells (λ x. (run_value x.0, x.1)) result (answer behind (clipped_section sig.now tokens.now)) }
+{
+    match read_run_section(alloc, sig, tokens) {
+        Ok((run, left)) => {
+            let at = first_byte(behind, left);
+            run_at(run, at)
+        }
+        Err(Stop::At(left, kind)) => {
+            let at = first_byte(behind, last_tokens(tokens, left));
+            Err(fault_at(kind, at))
+        }
+        Err(Stop::Memory) => Err(InputError::OutOfMemory),
+    }
+}
+
+/// What is read of all tokens: those behind the first that passes a limit are never looked at.
+#[tactic(auto, using(crate::proofs::Laws::within))]
+fn read_tokens(
+    alloc: Global,
+    sig: &Signature,
+    end: u64,
+    tokens: &[Token],
+) -> Result<(RunText, u64), InputError>
+    ensures { Tells (λ x. (run_value x.0, x.1)) result (judged_tokens sig.now end tokens.now) }
+{
+    match first_limit(alloc, sig, tokens)? {
+        None => read_up_to(alloc, sig, Ok(end), tokens),
+        Some(passed) => {
+            let (front, _) = tokens.split_at(passed.token + 1);
+            read_up_to(alloc, sig, Err(passed.place), front)
+        }
+    }
+}
+
+/// The run that the bytes from one on spell over the symbols of the signature, as `run_of` defines it; behind the last
+/// byte stands no run. Time is in proportion to the bytes.
+///
+/// # Errors
+/// The first fault: the byte at which the text is refused, and why; or want of memory.
+#[tactic(auto, using(crate::proofs::Laws::runs))]
+pub fn read_run(
+    alloc: Global,
+    sig: &Signature,
+    bytes: &[u8],
+    from: u64,
+) -> Result<RunText, InputError>
+    ensures ok { IfOk result (λ run. run_of sig.now bytes.now from ≡ Ok (run_value run)) }
+    ensures refused { IfErr result (λ e. Refuses e (run_of sig.now bytes.now from)) }
+{
+    let tokens = tokens_behind(alloc, bytes, from)?;
+    let (run, _) = read_tokens(alloc, sig, bytes.len() as u64, tokens.as_slice())?;
+    Ok(run)
+}
