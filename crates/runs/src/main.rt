@@ -1,9 +1,9 @@
-//! Answers a table of problems as `scott prove --finders 0 --candidates 0` would, and counts those whose answer isn't the
-//! one wanted.
+//! Answers a table of problems as `scott` would under the words of each, and counts those whose answer isn't the one
+//! wanted.
 //!
-//! The table is standard input. Each case is a line of `==`, a space and a remark, the problem, a line of `==`, a space
-//! and the status that is wanted, and the text that is wanted; a problem goes up to the line feed before the next such
-//! line, and a text up to the next such line. `== end` ends the table.
+//! The table is standard input. Each case is a line of `==`, a space, the words with a space between each two, ` : ` and a
+//! remark, then the problem, a line of `==`, a space and the status that is wanted, and the text that is wanted; a problem
+//! goes up to the line feed before the next such line, and a text up to the next such line. `== end` ends the table.
 #![tactic(auto)]
 
 use sc_base::{Sink, SoundSink, SoundSource, StdSink, StdSource, read_all, write_all};
@@ -23,11 +23,13 @@ const NEXT: &[u8] = b"\n== ";
 
 const END: &[u8] = b"end";
 
-const WORDS: [&str; 5] = ["prove", "--finders", "0", "--candidates", "0"];
+/// What stands between the words and the remark.
+const BEHIND_WORDS: &[u8] = b" : ";
 
-/// A problem, and the status and the text, but for the line feed at its end, that are wanted of it.
+/// A problem with the words, and the status and the text, but for the line feed at its end, that are wanted of it.
 #[derive(Clone, Copy)]
 struct Case<'a> {
+    words: &'a [u8],
     problem: &'a [u8],
     status: &'a [u8],
     text: &'a [u8],
@@ -46,11 +48,13 @@ fn cut<'a>(bytes: &'a [u8], pattern: &[u8]) -> Option<(&'a [u8], &'a [u8])> {
 
 /// The first case of what stands behind a head, and what stands behind the next one.
 fn next_case(table: &[u8]) -> Option<(Case<'_>, &[u8])> {
-    let (_remark, rest) = cut(table, b"\n")?;
+    let (words, rest) = cut(table, BEHIND_WORDS)?;
+    let (_remark, rest) = cut(rest, b"\n")?;
     let (problem, rest) = cut(rest, NEXT)?;
     let (status, rest) = cut(rest, b"\n")?;
     let (text, rest) = cut(rest, NEXT)?;
     let case = Case {
+        words,
         problem,
         status,
         text,
@@ -58,10 +62,17 @@ fn next_case(table: &[u8]) -> Option<(Case<'_>, &[u8])> {
     Some((case, rest))
 }
 
-fn words(alloc: Global) -> Mem<Vec<String>> {
+fn words(alloc: Global, line: &[u8]) -> Mem<Vec<String>> {
     let mut words = Vec::new(alloc);
-    for word in WORDS {
-        words.push(String::from_str(alloc, word)?)?;
+    let mut rest = line;
+    // A word takes a byte at least.
+    for _ in 0..line.len() {
+        let (word, behind) = cut(rest, b" ").unwrap_or((rest, b""));
+        words.push(String::from_utf8_lossy(alloc, word)?)?;
+        if behind.is_empty() {
+            break;
+        }
+        rest = behind;
     }
     Ok(words)
 }
@@ -76,9 +87,9 @@ fn wanted_bytes(alloc: Global, case: Case) -> Mem<Vec<u8>> {
 }
 
 /// The status and the text that the problem is answered.
-fn told_bytes(alloc: Global, problem: &[u8]) -> Mem<Vec<u8>> {
-    let words = words(alloc)?;
-    let mut source = SoundSource::new(Vec::from_slice(alloc, problem)?);
+fn told_bytes(alloc: Global, case: Case) -> Mem<Vec<u8>> {
+    let words = words(alloc, case.words)?;
+    let mut source = SoundSource::new(Vec::from_slice(alloc, case.problem)?);
     let mut answer = SoundSink::new(alloc, 4096)?;
     let status = scott_over_sound(alloc, &words, &mut source, &mut answer);
     let mut told = Vec::new(alloc);
@@ -99,7 +110,7 @@ fn tell<K: Sink>(sink: &mut K, problem: &[u8], wanted: &[u8], told: &[u8]) {
 /// Whether the answer is the one wanted; another is told.
 fn is_as_wanted<K: Sink>(alloc: Global, case: Case, sink: &mut K) -> Mem<bool> {
     let wanted = wanted_bytes(alloc, case)?;
-    let told = told_bytes(alloc, case.problem)?;
+    let told = told_bytes(alloc, case)?;
     if told.as_slice() == wanted.as_slice() {
         return Ok(true);
     }

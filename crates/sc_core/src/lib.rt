@@ -8,12 +8,12 @@
 //!
 //! The contract of `turn` is the definition of a turn (`Turns` of sc_rules), with the versions that the prover has seen,
 //! of which there are none. So some looks lead to the run of each prover that is whole (`IsReached`): what is proved of
-//! all runs is proved of each that it makes, as that no clause waits in sos without end (`leaves_in_time`). It takes
-//! problems that need no equality (`NeedsNoEquality`).
+//! all runs is proved of each that it makes, as that no clause waits in sos without end (`leaves_in_time`).
 //!
 //! It stands on sc_keep's `Book`, which processes conclusions, on sc_sites and sc_work for the sites and the work of a
 //! turn, on sc_interp for the opening version, and on sc_fairness for that law. Want of memory is the one other answer;
-//! the prover isn't whole then, and nothing is known of its run.
+//! the prover isn't whole then, and nothing is known of its run. The test reads its problem by sc_input, which nothing
+//! else here uses.
 #![tactic(auto)]
 
 mod choosing;
@@ -24,3 +24,6 @@ mod turning;
 
 pub use end::TurnEnd;
 pub use prover::Prover;
+
+#[cfg(test)]
+mod tests;

@@ -10,7 +10,6 @@ ghost use Rattle.sc_rules.specs.Book.{Book as ABook};
 ghost use Rattle.sc_rules.specs.Start.{Starts};
 ghost use Rattle.sc_rules.specs.Turn.{Turns};
 ghost use Rattle.sc_rules.specs.declared.row.Outcome.TheVariants as outcome;
-ghost use Rattle.sc_keep.specs.State.{NeedsNoEquality};
 ghost use Rattle.sc_core.specs.Counts.{IsCounted};
 ghost use Rattle.sc_core.specs.State.{at_start, IsReached, LeaveInTime};
 ghost use Rattle.sc_core.specs.State.{end_of as spec_end_of};
@@ -81,7 +80,6 @@ fn end_of(ended: Option<Outcome>) -> TurnEnd
 impl Prover {
     /// The prover after the start of the problem's run, with so many lists of versions, 1 to 8, none of which has one.
     pub fn new(alloc: Global, problem: &Problem, lists: u32) -> Mem<Prover>
-        requires built { NeedsNoEquality problem.now }
         requires some { 1 ≤ lists }
         requires few { lists ≤ 8 }
         ensures { IfOk result (λ prover. (book : ABook) × (goal : AnOption ℕ) × Starts problem.now book goal × (prover ≡ at_start problem.now lists book goal)) }

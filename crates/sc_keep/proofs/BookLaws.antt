@@ -10,20 +10,25 @@ use Rattle.sc_data.specs.declared.Clause.{Clause}
 use Rattle.sc_term.specs.declared.symbol.Symbol.{Symbol}
 use Rattle.sc_reading.specs.Problem.{Stated}
 use Rattle.sc_reading.specs.WellFormed.{IsInput, IsProblem}
-use Rattle.std.specs.List.{Contains, IsDistinct}
+use Rattle.std.specs.List.{Contains}
 use Rattle.sc_data.specs.declared.Numbered.{Numbered}
+use Rattle.sc_data.specs.declared.Line.{Line}
 use Rattle.sc_data.specs.Numbering.{numbered}
+use Rattle.sc_data.specs.Proof.{AreSteps}
+use Rattle.sc_demod.specs.Standing.{ChecksWith}
 use Rattle.sc_rules.specs.Rewriting.{IsDemodulator}
 use Rattle.sc_rules.specs.Turn.{with_given}
-use Rattle.sc_rules.specs.Book.{Book, IsDerived, IsSound, next_number, numbered_clauses}
+use Rattle.sc_rules.specs.Book.{Book, IsDerived, IsSound, live, next_number, numbered_clauses}
 use Rattle.sc_keep.specs.declared.lists.Lists.{Lists}
 use Rattle.sc_keep.specs.Lists.{AreReady, book_of}
 use Rattle.sc_keep.specs.State.{empty_book}
 use Rattle.sc_keep.specs.Sweep.{HaveDistinctNumbers}
+use Rattle.sc_keep.proofs.DistinctLaws.{none_distinct}
 use Rattle.sc_keep.proofs.StaysReady.{give_stays_ready}
 use Rattle.sc_rules.specs.Start.{Starts}
 use Rattle.sc_rules.specs.Run.{started}
 use Rattle.sc_rules.proofs.DerivedRun.{run_derived}
+use Rattle.sc_rules.proofs.SoundLaws.{StandsIn, at}
 use Rattle.sc_keep.specs.Rivals.{IsFit, IsFitClause}
 
 -- ---- copies
@@ -64,21 +69,20 @@ give_ready problem old new p there is h =
 
 -- ---- before the start
 
-pub none_distinct : HaveDistinctNumbers []
-unfolding IsDistinct
-none_distinct = tt
-
 pub none_ready : (problem : Stated) (lists : Lists) → book_of lists ≡ empty_book → AreReady lists (next_number problem (book_of lists))
 none_ready problem lists e =
     let us : lists.usable ≡ [] = ap (λ (b : Book). b.usable) e in
     let ss : lists.sos ≡ [] = ap (λ (b : Book). b.sos) e in
-    let both : [] ≡ lists.usable ++ lists.sos = λ i. sym us i ++ sym ss i in
+    let ps : lists.passive ≡ [] = ap (λ (b : Book). b.passive) e in
+    let all : [] ≡ (lists.usable ++ lists.sos) ++ lists.passive = λ i. (sym us i ++ sym ss i) ++ sym ps i in
+    let Below = λ (q : Numbered). q.number < next_number problem (book_of lists) in
     record {
       usable = subst (All IsFit) (sym us) (All-nil IsFit);
       sos = subst (All IsFit) (sym ss) (All-nil IsFit);
-      passive = subst (All IsFit) (sym (ap (λ (b : Book). b.passive) e)) (All-nil IsFit);
-      distinct = subst HaveDistinctNumbers both none_distinct;
-      below = subst (All (λ (q : Numbered). q.number < next_number problem (book_of lists))) both (All-nil (λ (q : Numbered). q.number < next_number problem (book_of lists)));
+      passive = subst (All IsFit) (sym ps) (All-nil IsFit);
+      distinct = subst HaveDistinctNumbers all none_distinct;
+      below = subst (All Below) all (All-nil Below);
+      demods_below = subst (All Below) (sym (ap (λ (b : Book). b.demods) e)) (All-nil Below);
     }
 
 pub none_sound : (problem : Stated) (book : Book) → book ≡ empty_book → IsSound problem book
@@ -87,3 +91,10 @@ none_sound problem book e =
       under_numbers = All-nil (λ (p : Numbered). numbered (numbered_clauses problem empty_book) p.number ≡ Some p.clause);
       demodulators = All-nil (λ (d : Numbered). IsDemodulator d.clause);
     })
+
+-- ---- a conclusion
+
+pub checks_with_lists : (problem : Stated) (lists : Lists) (lines : List Line) → IsSound problem (book_of lists) → AreSteps (numbered_clauses problem (book_of lists)) lines
+    → ChecksWith (live (book_of lists) ++ lists.demods) lines
+checks_with_lists problem lists lines sound steps =
+    (numbered_clauses problem (book_of lists), (λ p k. at (StandsIn problem (book_of lists)) (live (book_of lists) ++ lists.demods) p sound.under_numbers k), steps)

@@ -13,9 +13,15 @@ pub mod AddingLaws
 pub mod ConflictFound
 pub mod RivalLaws
 pub mod FateLaws
+pub mod DistinctLaws
 pub mod ReadyLaws
 pub mod StaysReady
+pub mod StaysWithin
+pub mod AgainLaws
+pub mod DemodsLaws
 pub mod SimplifyFound
+pub mod SimplifyUnits
+pub mod SimplifySteps
 pub mod GivenLaws
 pub mod StartLaws
 pub mod EndingLaws

@@ -1,5 +1,5 @@
 -- A conclusion that isn't dropped joins the lists, and they stay ready.
-use Rattle.std.proofs.Common.{◌≡◌, ◌≢◌, ◌∙◌, sym, ap, subst, refl, ℕ, zero, suc, ◌<◌, Bool, true, false, List, [], ◌∷◌, ◌++◌, nat_eq, append_assoc, Option, None, arith}
+use Rattle.std.proofs.Common.{◌≡◌, ◌≢◌, ◌∙◌, sym, subst, refl, ℕ, zero, suc, ◌<◌, Bool, true, false, List, [], ◌∷◌, ◌++◌, nat_eq, append_assoc, Option, None, arith}
 use Rattle.std.specs.List.{All, AllByRecursion, AllPairs, IsDistinct}
 use Rattle.std.proofs.lemmas.Bool.{eqb-true}
 use Rattle.std.proofs.lemmas.Bool.Decides.{Decides-eqb}
@@ -65,15 +65,15 @@ distinct_pushed us ss now_us now_ss n same grown h below =
 -- ---- the fate of a clause that isn't dropped
 
 module _ (problem : Stated) (old mid new : Book) (n : Numbered) (lines : List Line) (turn : ℕ) (out : Processed) (flags : Flags) (params : Params) where
-  pub goes_on : (found : Option Fate) → n.number ≡ next_number problem old → problem.flags ≡ flags → problem.params ≡ params → flags.dynamic_demod ≡ false → ¬ (n.clause.literals ≡ [])
+  pub goes_on : (found : Option Fate) → n.number ≡ next_number problem old → problem.flags ≡ flags → problem.params ≡ params → ¬ (n.clause.literals ≡ [])
       → found ≡ None → IsDropped flags params (live old) n.clause found → mid ≡ with_kept problem old n.clause lines turn
-      → (problem.flags.back_sub ≡ flags.back_sub → problem.flags.dynamic_demod ≡ false → Keeps problem mid n new out) → MeetsFate problem old n.clause lines turn new out
-  goes_on found number same_flags same_params no_demod some none h joined keeps =
+      → (problem.flags ≡ flags → Keeps problem mid n new out) → MeetsFate problem old n.clause lines turn new out
+  goes_on found number same_flags same_params some none h joined keeps =
       kept_meets problem old n.clause lines turn some new out
       (subst (λ (fs : Flags). IsDropped fs problem.params (live old) n.clause None) (sym same_flags)
       (subst (λ (ps : Params). IsDropped flags ps (live old) n.clause None) (sym same_params) (not_dropped flags params (live old) n.clause found none h)))
       (subst (λ k. Keeps problem (with_kept problem old n.clause lines turn) (record { number = k; clause = n.clause }) new out) number
-      (subst (λ b. Keeps problem b n new out) joined (keeps (ap (λ (fs : Flags). fs.back_sub) same_flags) (ap (λ (fs : Flags). fs.dynamic_demod) same_flags ∙ no_demod))))
+      (subst (λ b. Keeps problem b n new out) joined (keeps same_flags)))
 
 -- ---- distinct numbers, said of pairs
 

@@ -1,27 +1,24 @@
 -- Merging and the canonical form keep the last clause within the limits.
-use Rattle.std.proofs.Common.{◌≡◌, ◌∙◌, sym, ap, subst, refl, ℕ, zero, suc, ◌-◌, ◌≤◌, max, List, [], ◌∷◌, ◌++◌, length, map, sum, nat_eq, Some, Option, false, Bool, arith, append-nil, length-append}
+use Rattle.std.proofs.Common.{◌≡◌, ◌∙◌, sym, ap, subst, refl, ℕ, zero, suc, ◌-◌, ◌≤◌, max, List, [], ◌∷◌, ◌++◌, length, map, sum, nat_eq, Some, Option, arith, append-nil, length-append}
 use Rattle.std.specs.Prelude.{IsSomeAnd}
 use Rattle.std.specs.List.{fold, position_or_len, remove}
 use Rattle.std.proofs.lemmas.List.Sums.{sum_by-cons}
 use Rattle.sc_data.specs.declared.Literal.{Literal}
 use Rattle.sc_data.specs.declared.Clause.{Clause}
 use Rattle.sc_data.specs.declared.Line.{Line}
-use Rattle.sc_data.specs.declared.Numbered.{Numbered}
 use Rattle.sc_data.specs.declared.Step.TheVariants.{Merge}
 use Rattle.sc_data.specs.Term.{largest}
 use Rattle.sc_data.specs.Clause.{IsWithinLimits, firsts, literal_depth, literal_weight, variables}
 use Rattle.sc_data.specs.JointInstance.{canonical, renumbering, whole}
 use Rattle.sc_data.specs.Numbering.{numbered}
 use Rattle.sc_data.specs.Proof.{IsMerged, clause_of}
-use Rattle.sc_reading.specs.declared.settings.Flags.{Flags}
 use Rattle.sc_steps.specs.Derivation.{last_clause}
 use Rattle.sc_steps.proofs.ListLaws.{some_and}
 use Rattle.sc_steps.proofs.LineLaws.{clause_of_end, some_so}
 use Rattle.sc_unify.proofs.JointLaws.{limits_kept}
-use Rattle.sc_rules.specs.Order.{With, Exhausts, ends, goes, limit}
+use Rattle.sc_rules.specs.Order.{Exhausts, ends, goes}
 use Rattle.sc_rules.specs.Derivation.{EndsCanonical}
-use Rattle.sc_rules.specs.Rewriting.{Rewrites}
-use Rattle.sc_rules.specs.Simplification.{MergesOnce, Simplifies}
+use Rattle.sc_rules.specs.Simplification.{MergesOnce}
 use Rattle.sc_keep.proofs.CanonicalForm.{ends_with}
 
 -- the last clause is within the limits
@@ -91,17 +88,3 @@ merged_within before after (goes {y = mid} m rest) h = merged_within mid after r
 pub canonical_end_within : (before after : List Line) → EndsCanonical before after → EndsWithin before → (c : Clause) → last_clause after ≡ Some c → IsWithinLimits c
 canonical_end_within before after e h =
     (ends_with IsWithinLimits before after e (λ c there _. each_within before c h there) (λ c there. canonical_within c (each_within before c h there))).1
-
-nothing_rewritten : (n : ℕ) (before after : List Line) → Rewrites [] n before after → after ≡ before
-nothing_rewritten zero before after limit = refl
-nothing_rewritten (suc n) before after (ends none) = refl
-nothing_rewritten (suc n) before after (goes r rest) = absurd (omega (arith, r.least.listed.1))
-
-without : (A B : Type 0) (flag : Bool) → flag ≡ false → With flag A B → B
-without A B flag off h = subst (λ f. With f A B) off h
-
-pub simplified_within : (flags : Flags) (most : ℕ) (units : List Numbered) (before after : List Line) → flags.dynamic_demod ≡ false → flags.unit_deletion ≡ false → Simplifies flags most [] units before after
-    → EndsWithin before → (c : Clause) → last_clause after ≡ Some c → IsWithinLimits c
-simplified_within flags most units before after no_demod no_deletion s h =
-    let cut : s.cut ≡ before = without _ (s.cut ≡ s.oriented) flags.unit_deletion no_deletion s.cuts ∙ without _ (s.oriented ≡ s.rewritten) flags.dynamic_demod no_demod s.orients ∙ nothing_rewritten most before s.rewritten s.rewrites in
-    canonical_end_within s.merged after s.canonical_last (merged_within before s.merged (subst (λ (ls : List Line). Exhausts MergesOnce ls s.merged) cut s.merges) h)

@@ -1,5 +1,6 @@
 pub mod Least
 pub mod Repeated
+pub mod LiveUnits
 pub mod Canonical
 pub mod Sweep
 pub mod Parts

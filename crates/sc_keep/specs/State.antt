@@ -1,14 +1,14 @@
--- What the prover's book is seen as, and the problems that it takes.
-use Rattle.std.specs.Prelude.{All, Bool, true, false, List, ◌≡◌, ◌≢◌, []}
+-- What the prover's book is seen as, and what it keeps.
+use Rattle.std.specs.Prelude.{All, Bool, true, List, ◌≡◌, []}
 use Rattle.sc_data.specs.declared.Clause.{Clause}
+use Rattle.sc_data.specs.Clause.{IsWithinLimits}
 use Rattle.sc_term.specs.declared.symbol.Symbol.{Symbol}
 use Rattle.sc_reading.specs.Problem.{Stated}
 use Rattle.sc_reading.specs.WellFormed.{IsProblem}
 use Rattle.sc_reading.specs.declared.settings.Flags.{Flags}
 use Rattle.sc_reading.specs.declared.settings.Params.{Params}
 use Rattle.sc_reading.specs.declared.settings.Home.{Home}
-use Rattle.sc_reading.specs.declared.settings.Home.TheVariants.{Demodulators}
-use Rattle.sc_rules.specs.Book.{Book, IsDerived, IsSound, next_number}
+use Rattle.sc_rules.specs.Book.{Book, IsDerived, IsSound, next_number, numbered_clauses}
 use Rattle.sc_keep.specs.declared.lists.Lists.{Lists}
 use Rattle.sc_keep.specs.Lists.{AreReady, book_of}
 
@@ -18,23 +18,18 @@ pub record State : Type 0 where
   pub book : Book
   pub whole : Bool
 
--- the problem has no demodulators, and paramodulation, unit deletion and what makes demodulators are off
-pub record NeedsNoEquality (problem : Stated) : Type 0 where
-  pub no_demodulator : All (λ home. home ≢ Demodulators) problem.homes
-  pub para_from : problem.flags.para_from ≡ false
-  pub para_into : problem.flags.para_into ≡ false
-  pub unit_deletion : problem.flags.unit_deletion ≡ false
-  pub dynamic_demod : problem.flags.dynamic_demod ≡ false
-  pub back_demod : problem.flags.back_demod ≡ false
+-- every clause that has a number is within the limits
+abbrev pub AreAllWithin : Stated → Book → Type 0
+AreAllWithin problem book = All (λ (c : Clause). IsWithinLimits c) (numbered_clauses problem book)
 
 -- what a book of these lists keeps: while it is whole, each derived clause follows by its derivation, each clause of a
--- list is the one that has its number, and the lists are ready for a conclusion
+-- list is the one that has its number, the lists are ready for a conclusion, and all clauses are within the limits
 pub record IsState (lists : Lists) (state : State) : Type 0 where
   pub problem : IsProblem state.problem
-  pub no_equality : NeedsNoEquality state.problem
   pub derived : state.whole ≡ true → IsDerived state.problem state.book
   pub sound : state.whole ≡ true → IsSound state.problem state.book
   pub ready : state.whole ≡ true → AreReady lists (next_number state.problem state.book)
+  pub within : state.whole ≡ true → AreAllWithin state.problem state.book
 
 -- the book before the start
 abbrev pub empty_book : Book

@@ -1,9 +1,10 @@
 //! The book: the clauses that the prover keeps.
 
-ghost use Rattle.std.specs.Prelude.{◌≡◌, ◌≢◌, ◌<◌, ◌≤◌, ◌+◌, ◌-◌, ◌++◌, ◌^◌, [], true, false, min, All, AllPairs, IfOk, OnOk, OnErr, IsSomeAnd, Contains, Some, length};
+ghost use Rattle.std.specs.Prelude.{◌≡◌, ◌≢◌, ◌<◌, ◌≤◌, ◌+◌, ◌-◌, ◌++◌, ◌^◌, ℕ, [], true, false, min, All, AllPairs, IfOk, OnOk, OnErr, IsSomeAnd, Contains, Some, length};
 ghost use Rattle.sc_data.specs.Clause.{IsCanonical, IsWithinLimits};
 ghost use Rattle.sc_data.specs.Numbering.{numbered};
 ghost use Rattle.sc_data.specs.Proof.{AreSteps, IsProof};
+ghost use Rattle.sc_data.specs.declared.Clause.{Clause as AClause};
 ghost use Rattle.sc_data.specs.declared.Numbered.{Numbered as ANumbered};
 ghost use Rattle.sc_steps.specs.Derivation.{all_clauses};
 ghost use Rattle.sc_steps.specs.Splice.{IsSplice};
@@ -12,7 +13,7 @@ ghost use Rattle.sc_rules.specs.Book.{IsDerived, IsSound, next_number, numbered_
 ghost use Rattle.sc_rules.specs.Processing.{Processes};
 ghost use Rattle.sc_rules.specs.Turn.{with_given};
 ghost use Rattle.sc_rules.specs.Start.{Starts};
-ghost use Rattle.sc_keep.specs.State.{NeedsNoEquality, empty_book};
+ghost use Rattle.sc_keep.specs.State.{empty_book};
 ghost use Rattle.sc_keep.specs.Sweep.{HaveDistinctNumbers};
 
 use crate::copies::{copy_clauses, copy_symbols};
@@ -21,6 +22,7 @@ use crate::given::give;
 use crate::lists::Lists;
 use crate::start::start_lists;
 use sc_data::{Clause, Line, Numbered};
+use sc_demod::Demods;
 use sc_problem::Problem;
 use sc_reading::{Flags, Home, Params};
 use sc_rules::{KeptRow, Processed};
@@ -44,9 +46,9 @@ fn clause_at<'a>(inputs: &'a [Clause], derived: &'a [Derived], n: u32) -> &'a Cl
     }
 }
 
-/// A problem that needs no equality (`NeedsNoEquality`) and the clauses that the prover keeps for it. Contracts see the
-/// problem, the definition's book and whether it is whole (`State`); `IsState` says what each keeps. After a call that
-/// answered want of memory the book isn't whole, and nothing is known of its clauses.
+/// A problem and the clauses that the prover keeps for it. Contracts see the problem, the definition's book and whether it
+/// is whole (`State`); `IsState` says what each keeps. After a call that answered want of memory the book isn't whole, and
+/// nothing is known of its clauses.
 #[derive(Drop)]
 pub struct Book {
     alloc: Global,
@@ -76,7 +78,6 @@ impl Model for Book {
 impl Book {
     /// The book of the problem before the start.
     pub fn new(alloc: Global, problem: &Problem) -> Mem<Book>
-        requires { NeedsNoEquality problem.now }
         ensures { IfOk result (λ book. book ≡ record { problem = problem.now; book = empty_book; whole = true }) }
     {
         problem.keeps();
@@ -95,6 +96,7 @@ impl Book {
                 usable: Items::new(alloc),
                 sos: Items::new(alloc),
                 passive: Items::new(alloc),
+                demods: Demods::new(alloc),
                 kept: Items::new(alloc),
             },
             whole: true,
@@ -102,11 +104,10 @@ impl Book {
     }
 
     /// What every book keeps. While it is whole, its derived clauses follow, each clause of a list is the one that has
-    /// its number, those of usable and sos have numbers of their own, below the next one, and every live clause is
-    /// canonical and within the limits.
+    /// its number, those of usable and sos have numbers of their own, below the next one, every live clause is canonical,
+    /// and every clause that has a number is within the limits.
     pub fn keeps(&self)
         ensures problem { IsProblem self.now.problem }
-        ensures no_equality { NeedsNoEquality self.now.problem }
         ensures derived { self.now.whole ≡ true → IsDerived self.now.problem self.now.book }
         ensures sound { self.now.whole ≡ true → IsSound self.now.problem self.now.book }
         ensures distinct { self.now.whole ≡ true → HaveDistinctNumbers (self.now.book.usable ++ self.now.book.sos) }
@@ -118,6 +119,7 @@ impl Book {
         ensures sos_within { self.now.whole ≡ true → All (λ p. IsWithinLimits p.clause) self.now.book.sos }
         ensures passive_canonical { self.now.whole ≡ true → All (λ p. IsCanonical p.clause) self.now.book.passive }
         ensures passive_within { self.now.whole ≡ true → All (λ p. IsWithinLimits p.clause) self.now.book.passive }
+        ensures all_within { self.now.whole ≡ true → All (λ c. IsWithinLimits c) (numbered_clauses self.now.problem self.now.book) }
     {
         let _ = &self.whole;
     }
@@ -152,13 +154,16 @@ impl Book {
     }
 
     /// Processes a conclusion in this turn (`Processes`): it is simplified, and dropped, or kept with what follows. Its
-    /// lines have to be steps from the clauses of the book, which has to be whole. The answer is `OutOfMemory` too where
-    /// its lines together with its literals would be 4,294,967,296 or more; the book isn't whole then.
+    /// lines have to be steps from the clauses of the book, which has to be whole. Each of the numbers that come again is
+    /// that of a clause that has a number. The answer is `OutOfMemory` too where its lines, those of its simplification and
+    /// its literals together would be 4,294,967,292 or more; the book isn't whole then.
     pub fn process(&mut self, made: Made, turn: u32) -> Mem<Processed>
         requires whole { self.old.whole ≡ true }
         requires steps { AreSteps (numbered_clauses self.old.problem self.old.book) made.lines }
         requires few { length self.old.problem.inputs + length self.old.book.derived + 2 < 2 ^ 32 }
         ensures processes { IfOk result (λ out. Processes self.old.problem self.old.book made.lines turn self.new.book out) }
+        ensures again { IfOk result (λ out. (n : ℕ) → Contains out.again n
+            → (c : AClause) × (numbered (numbered_clauses self.new.problem self.new.book) n ≡ Some c)) }
         ensures problem { self.new.problem ≡ self.old.problem }
         ensures whole { OnOk result (self.new.whole ≡ true) }
         ensures halfway { OnErr result (self.new.whole ≡ false) }
@@ -170,7 +175,7 @@ impl Book {
             self.params,
             number,
             &mut self.lists,
-            made.lines,
+            made,
             turn,
         ) {
             Ok(out) => Ok(out),
@@ -250,6 +255,13 @@ impl Book {
         ensures { result.now ≡ self.now.book.passive }
     {
         &self.lists.passive
+    }
+
+    /// The demodulators, in rising order of their numbers.
+    pub fn demods(&self) -> &[Numbered]
+        ensures { result.now ≡ self.now.book.demods }
+    {
+        self.lists.demods.as_slice()
     }
 
     /// The rows of kept clauses, in the order in which they were kept.

@@ -1,47 +1,44 @@
 //! Every fate of a conclusion.
 
-ghost use Rattle.std.specs.Prelude.{◌≡◌, ◌↔◌, ◌++◌, ◌<◌, ◌≤◌, ◌+◌, ◌^◌, IfOk, IsSomeAnd, IsTrue, Some, false, length};
+ghost use Rattle.std.specs.Prelude.{◌≡◌, ◌++◌, ◌<◌, ◌≤◌, ◌+◌, ◌^◌, IfOk, OnOk};
 ghost use Rattle.sc_reading.specs.Problem.{Stated};
-ghost use Rattle.sc_steps.specs.Derivation.{last_clause};
-ghost use Rattle.sc_rules.specs.Book.{next_number, with_derived};
+ghost use Rattle.sc_rules.specs.Book.{IsSound, live, next_number, with_derived};
 ghost use Rattle.sc_rules.specs.Processing.{MeetsFate, Processes, only_fate};
+ghost use Rattle.sc_rules.specs.Simplification.{Simplifies};
 ghost use Rattle.sc_rules.specs.declared.fate.Fate.TheVariants.{Empty};
+ghost use Rattle.sc_demod.specs.Standing.{ChecksWith};
 ghost use Rattle.sc_keep.specs.Dropping.{IsDropped};
-ghost use Rattle.sc_data.specs.Clause.{IsWithinLimits};
 ghost use Rattle.sc_keep.specs.Lists.{AreReady, book_of};
 ghost use Rattle.sc_keep.specs.Rivals.{IsFit};
+ghost use Rattle.sc_keep.specs.State.{AreAllWithin};
+ghost use Rattle.sc_keep.specs.Sweep.{HaveDistinctNumbers};
 
 use crate::dropping::dropped;
 use crate::keeping::{fate_alone, keep};
 use crate::lists::{Lists, join};
 use crate::live::Live;
-use crate::simplify::simplify_lines;
+use crate::simplify::simplify;
 use sc_data::{Line, Numbered};
 use sc_reading::{Flags, Params};
 use sc_rules::{Fate, Processed};
-use sc_steps::Derived;
-use sc_term::{Mem, OutOfMemory, copy};
+use sc_steps::{Derived, Made};
+use sc_term::Mem;
 use sqlite_items::Items;
 use std::alloc::Global;
 
-/// Whether the lines leave room for as many more, with numbers below 2^32, as their last clause has literals.
-fn has_room(lines: &[Line]) -> bool
-    requires { 0 < length lines.now }
-    ensures { IsTrue result ↔ IsSomeAnd (last_clause lines.now) (λ c. length lines.now + length c.literals < 2 ^ 32) }
+/// The conclusion, simplified by the demodulators and the live clauses (`Simplifies`).
+fn simplified(alloc: Global, flags: Flags, params: Params, lists: &Lists, made: Made) -> Mem<Made>
+    requires distinct { HaveDistinctNumbers (live (book_of lists.now)) }
+    requires checks { ChecksWith (live (book_of lists.now) ++ lists.now.demods) made.lines }
+    ensures { IfOk result (λ after. Simplifies flags params.demod_limit lists.now.demods (live (book_of lists.now)) made.lines after.lines) }
 {
-    let most = u32::MAX as usize;
-    let c = &lines[lines.len() - 1].clause;
-    lines.len() <= most && c.literals.len() <= most - lines.len()
-}
-
-/// The clause that the lines end with, under the number.
-fn conclusion(alloc: Global, number: u32, lines: &[Line]) -> Mem<Numbered>
-    requires { 0 < length lines.now }
-    ensures number { IfOk result (λ n. n.number ≡ number) }
-    ensures clause { IfOk result (λ n. last_clause lines.now ≡ Some n.clause) }
-{
-    let clause = copy(alloc, &lines[lines.len() - 1].clause)?;
-    Ok(Numbered { number, clause })
+    let live = Live {
+        usable: lists.usable.as_slice(),
+        sos: lists.sos.as_slice(),
+        passive: lists.passive.as_slice(),
+    };
+    let after = simplify(alloc, flags, params.demod_limit, &lists.demods, live, made)?;
+    Ok(after)
 }
 
 /// The clause with its lines takes the number, and ends the run.
@@ -88,7 +85,7 @@ fn meet_fate(
     requires fit { IsFit n }
     requires few { n.number + 1 < 2 ^ 32 }
     ensures { IfOk result (λ out. (problem : Stated) → n.number ≡ next_number problem (book_of lists.old) → problem.flags ≡ flags → problem.params ≡ params
-        → flags.dynamic_demod ≡ false → MeetsFate problem (book_of lists.old) n.clause lines turn (book_of lists.new) out) }
+        → MeetsFate problem (book_of lists.old) n.clause lines turn (book_of lists.new) out) }
 {
     if n.clause.literals.is_empty() {
         let out = end_with(alloc, lists, n, lines)?;
@@ -98,39 +95,42 @@ fn meet_fate(
         Some(fate) => Ok(fate_alone(alloc, fate)),
         None => {
             join(alloc, lists, &n, lines, turn)?;
-            let out = keep(alloc, flags.back_sub, lists, &n)?;
+            let out = keep(alloc, flags, lists, &n)?;
             Ok(out)
         }
     }
 }
 
-/// Simplifies the conclusion that the lines end with and gives it its fate (`Processes`), for a problem that needs no
-/// equality: without demodulators, and with neither orientation nor unit deletion asked for. `number` is the number that
-/// it takes if it is kept, and `turn` the turn of the search. The conclusion has to be within the limits. The answer is
-/// `OutOfMemory` too where its lines together with its literals would be 2^32 or more. After that answer a list may lack
-/// clauses that another has.
+/// Simplifies the conclusion and gives it its fate (`Processes`). `number` is the number that it takes if it is kept, and
+/// `turn` the turn of the search. Its lines have to check over clauses of which those of the lists are some, by their
+/// numbers. The lists are ready for a conclusion again then, and clauses that have a number are within the limits as
+/// before. The answer is `OutOfMemory` too where its lines, those of its simplification and its literals together would be
+/// 4,294,967,292 or more. After that answer a list may lack clauses that another has.
 pub fn process_lines(
     alloc: Global,
     flags: Flags,
     params: Params,
     number: u32,
     lists: &mut Lists,
-    lines: Items<Line>,
+    made: Made,
     turn: u32,
 ) -> Mem<Processed>
     requires light { params.max_weight ≤ 1000 }
-    requires within { IsSomeAnd (last_clause lines) (λ c. IsWithinLimits c) }
+    requires checks { ChecksWith (live (book_of lists.old) ++ lists.old.demods) made.lines }
     requires ready { AreReady lists.old number }
     requires few { number + 1 < 2 ^ 32 }
-    ensures { IfOk result (λ out. (problem : Stated) → number ≡ next_number problem (book_of lists.old) → problem.flags ≡ flags → problem.params ≡ params
-        → flags.dynamic_demod ≡ false → flags.unit_deletion ≡ false → Processes problem (book_of lists.old) lines turn (book_of lists.new) out) }
+    ensures processes { IfOk result (λ out. (problem : Stated) → number ≡ next_number problem (book_of lists.old) → problem.flags ≡ flags → problem.params ≡ params
+        → Processes problem (book_of lists.old) made.lines turn (book_of lists.new) out) }
+    ensures ready { OnOk result ((problem : Stated) → number ≡ next_number problem (book_of lists.old) → problem.flags ≡ flags → problem.params ≡ params
+        → AreReady lists.new (next_number problem (book_of lists.new))) }
+    ensures within { OnOk result ((problem : Stated) → number ≡ next_number problem (book_of lists.old) → problem.flags ≡ flags → problem.params ≡ params
+        → IsSound problem (book_of lists.old) → AreAllWithin problem (book_of lists.old) → AreAllWithin problem (book_of lists.new)) }
 {
-    if !has_room(lines.as_slice()) {
-        return Err(OutOfMemory);
-    }
-    let mut simplified = lines;
-    simplify_lines(alloc, &mut simplified)?;
-    let n = conclusion(alloc, number, simplified.as_slice())?;
-    let out = meet_fate(alloc, flags, params, lists, n, simplified, turn)?;
+    let made = simplified(alloc, flags, params, lists, made)?;
+    let n = Numbered {
+        number,
+        clause: made.clause,
+    };
+    let out = meet_fate(alloc, flags, params, lists, n, made.lines, turn)?;
     Ok(out)
 }

@@ -1,18 +1,18 @@
-//! What a kept clause does: it meets its rival, or sweeps the clauses that it subsumes.
+//! What a kept clause does: it meets its rival, or sweeps the clauses that it subsumes or rewrites.
 
-ghost use Rattle.std.specs.Prelude.{◌≡◌, ◌++◌, ◌<◌, ◌+◌, ◌^◌, List, All, IfOk, false};
-ghost use Rattle.sc_data.specs.declared.Numbered.{Numbered as ANumbered};
+ghost use Rattle.std.specs.Prelude.{◌≡◌, ◌++◌, ◌<◌, ◌+◌, ◌^◌, All, IfOk};
 ghost use Rattle.sc_reading.specs.Problem.{Stated};
-ghost use Rattle.sc_subsume.specs.Subsumption.{Subsumes};
-ghost use Rattle.sc_rules.specs.Processing.{AreOthers, Keeps, Sweeps, only_fate};
+ghost use Rattle.sc_rules.specs.Processing.{Keeps, Sweeps, only_fate};
+ghost use Rattle.sc_rules.specs.declared.fate.Fate.TheVariants.{Kept};
 ghost use Rattle.sc_keep.specs.Lists.{book_of};
 ghost use Rattle.sc_keep.specs.Rivals.{IsFit};
-ghost use Rattle.sc_keep.specs.Sweep.{HaveDistinctNumbers, numbers};
+ghost use Rattle.sc_keep.specs.Sweep.{HaveDistinctNumbers};
 
+use crate::deleting::{delete_subsumed, demodulate};
 use crate::lists::Lists;
 use crate::live::{Live, live_rival};
-use crate::sweep::{leave_out, note_subsumed};
 use sc_data::Numbered;
+use sc_reading::Flags;
 use sc_rules::{Fate, Processed};
 use sc_term::Mem;
 use sqlite_items::Items;
@@ -29,49 +29,47 @@ pub fn fate_alone(alloc: Global, fate: Fate) -> Processed
     }
 }
 
-/// The numbers of the other clauses of usable and sos that the new one subsumes, in rising order.
-fn subsumed_by(alloc: Global, lists: &Lists, n: &Numbered) -> Mem<Vec<u32>>
-    requires { HaveDistinctNumbers (lists.now.usable ++ lists.now.sos) }
-    ensures { IfOk result (λ gone. (subsumed : List ANumbered) × AreOthers (book_of lists.now) n.now (Subsumes n.now.clause) subsumed
-        × (gone.items ≡ numbers subsumed)) }
+/// A clause of that number is kept; those of the numbers are deleted, and of them those that it rewrites come again.
+fn kept_with(alloc: Global, number: u32, subsumed: Vec<u32>, rewritten: Vec<u32>) -> Mem<Processed>
+    ensures { IfOk result (λ out. out ≡ record { fate = Kept number; gone = subsumed.items ++ rewritten.items; again = rewritten.items }) }
 {
-    let mut gone = Vec::new(alloc);
-    note_subsumed(alloc, n, lists.usable.as_slice(), &mut gone)?;
-    note_subsumed(alloc, n, lists.sos.as_slice(), &mut gone)?;
-    gone.sort_unstable();
-    Ok(gone)
-}
-
-/// Deletes the clauses that the new one subsumes, where that is asked for.
-fn sweep(alloc: Global, back_sub: bool, lists: &mut Lists, n: &Numbered) -> Mem<Processed>
-    requires { HaveDistinctNumbers (lists.old.usable ++ lists.old.sos) }
-    ensures { IfOk result (λ out. (problem : Stated) → problem.flags.back_sub ≡ back_sub → problem.flags.dynamic_demod ≡ false
-        → Sweeps problem (book_of lists.old) n.now (book_of lists.new) out) }
-{
-    if !back_sub {
-        return Ok(fate_alone(alloc, Fate::Kept(n.number)));
-    }
-    let gone = subsumed_by(alloc, lists, n)?;
-    leave_out(&mut lists.usable, gone.as_slice());
-    leave_out(&mut lists.sos, gone.as_slice());
+    let mut gone = subsumed;
+    gone.extend_from_slice(rewritten.as_slice())?;
     Ok(Processed {
-        fate: Fate::Kept(n.number),
+        fate: Fate::Kept(number),
         gone: Items::from_vec(gone),
-        again: Items::new(alloc),
+        again: Items::from_vec(rewritten),
     })
 }
 
-/// What follows when `n` has joined the lists (`Keeps`), where no clause becomes a demodulator: the least live unit that
-/// conflicts with it gives the empty clause, which takes the number after that of `n`; without one, the clauses that `n`
-/// subsumes are deleted where `back_sub` asks for it. After want of memory a list may lack clauses that another has.
-pub fn keep(alloc: Global, back_sub: bool, lists: &mut Lists, n: &Numbered) -> Mem<Processed>
+/// Deletes the clauses that the new one subsumes, and then those that it rewrites as a demodulator, where these are asked
+/// for (`Sweeps`).
+fn sweep(alloc: Global, flags: Flags, lists: &mut Lists, n: &Numbered) -> Mem<Processed>
+    requires fit { IsFit n.now }
+    requires distinct { HaveDistinctNumbers (lists.old.usable ++ lists.old.sos) }
+    requires greatest { All (λ p. p.number < n.now.number) lists.old.demods }
+    ensures { IfOk result (λ out. (problem : Stated) → problem.flags ≡ flags
+        → Sweeps problem (book_of lists.old) n.now (book_of lists.new) out) }
+{
+    let subsumed = delete_subsumed(alloc, flags.back_sub, lists, n)?;
+    let rewritten = demodulate(alloc, flags, lists, n)?;
+    let out = kept_with(alloc, n.number, subsumed, rewritten)?;
+    Ok(out)
+}
+
+/// What follows when `n` has joined the lists (`Keeps`): the least live unit that conflicts with it gives the empty
+/// clause, which takes the number after that of `n`; without one, the clauses that `n` subsumes are deleted where
+/// `back_sub` asks for it, and where `n` becomes a demodulator, as `dynamic_demod` allows, those that it rewrites where
+/// `back_demod` asks for it. After want of memory a list may lack clauses that another has.
+pub fn keep(alloc: Global, flags: Flags, lists: &mut Lists, n: &Numbered) -> Mem<Processed>
     requires fit { IsFit n.now }
     requires usable { All IsFit lists.old.usable }
     requires sos { All IsFit lists.old.sos }
     requires passive { All IsFit lists.old.passive }
     requires distinct { HaveDistinctNumbers (lists.old.usable ++ lists.old.sos) }
+    requires greatest { All (λ p. p.number < n.now.number) lists.old.demods }
     requires few { n.now.number + 1 < 2 ^ 32 }
-    ensures { IfOk result (λ out. (problem : Stated) → problem.flags.back_sub ≡ back_sub → problem.flags.dynamic_demod ≡ false
+    ensures { IfOk result (λ out. (problem : Stated) → problem.flags ≡ flags
         → Keeps problem (book_of lists.old) n.now (book_of lists.new) out) }
 {
     let live = Live {
@@ -85,7 +83,7 @@ pub fn keep(alloc: Global, back_sub: bool, lists: &mut Lists, n: &Numbered) -> M
             Ok(fate_alone(alloc, Fate::Empty(n.number + 1)))
         }
         None => {
-            let out = sweep(alloc, back_sub, lists, n)?;
+            let out = sweep(alloc, flags, lists, n)?;
             Ok(out)
         }
     }

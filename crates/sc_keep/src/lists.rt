@@ -8,19 +8,21 @@ ghost use Rattle.sc_rules.specs.Processing.{with_kept};
 ghost use Rattle.sc_keep.specs.Lists.{book_of};
 
 use sc_data::{Line, Numbered};
+use sc_demod::Demods;
 use sc_rules::KeptRow;
 use sc_steps::Derived;
 use sc_term::{Mem, copy, weight};
 use sqlite_items::Items;
 use std::alloc::Global;
 
-/// The derived clauses, the lists of live clauses, and the rows of kept ones. There are no demodulators.
+/// The derived clauses, the lists of live clauses, the demodulators, and the rows of kept clauses.
 #[derive(Drop)]
 pub struct Lists {
     pub derived: Items<Derived>,
     pub usable: Items<Numbered>,
     pub sos: Items<Numbered>,
     pub passive: Items<Numbered>,
+    pub demods: Demods,
     pub kept: Items<KeptRow>,
 }
 
@@ -37,6 +39,7 @@ pub fn join(
     ensures usable { OnOk result (lists.new.usable ≡ lists.old.usable) }
     ensures sos { OnOk result (lists.new.sos ≡ lists.old.sos ++ n.now ∷ []) }
     ensures passive { OnOk result (lists.new.passive ≡ lists.old.passive) }
+    ensures demods { OnOk result (lists.new.demods ≡ lists.old.demods) }
     ensures book { OnOk result ((problem : Stated) → n.now.number ≡ next_number problem (book_of lists.old)
         → book_of lists.new ≡ with_kept problem (book_of lists.old) n.now.clause lines turn) }
 {

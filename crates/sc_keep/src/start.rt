@@ -1,20 +1,26 @@
 //! The start: the input clauses go to their lists, and the first that is empty or conflicts with an earlier one ends it.
 
-ghost use Rattle.std.specs.Prelude.{◌≡◌, ◌↔◌, ◌++◌, ◌∷◌, [], ◌<◌, ◌+◌, ◌^◌, List, All, IsTrue, IfOk, OnOk, MatchOption, Some, None, length};
+ghost use Rattle.std.specs.Prelude.{◌≡◌, ◌↔◌, ◌++◌, ◌∷◌, [], ◌<◌, ◌+◌, ◌^◌, List, All, AllPairs, IsTrue, IfOk, OnOk, MatchOption, Some, None, length, zip};
+ghost use Rattle.std.specs.List.{AllByRecursion};
 ghost use Rattle.sc_data.specs.Numbering.{numbered as numbered_element};
 ghost use Rattle.sc_data.specs.declared.Numbered.{Numbered as ANumbered};
 ghost use Rattle.sc_reading.specs.Problem.{Stated};
+ghost use Rattle.sc_reading.specs.WellFormed.{FitsHome};
+ghost use Rattle.sc_reading.specs.declared.settings.Home.TheVariants.{Demodulators};
+ghost use Rattle.sc_rules.specs.Rewriting.{IsDemodulator};
 ghost use Rattle.sc_rules.specs.Conflict.{Conflicts};
 ghost use Rattle.sc_rules.specs.Order.{IsFilter};
 ghost use Rattle.sc_rules.specs.Start.{numbered_from, EndsStart, IsEarlierRival, OpensBook, Starts};
 ghost use Rattle.sc_keep.specs.Rivals.{IsFit, IsFitClause};
 ghost use Rattle.sc_keep.specs.Start.{EndsBy, HasInput, IsBelowEnding, IsFirstEnding, IsLeastEarlier};
-ghost use Rattle.sc_keep.specs.Started.{IsEndedBy, started_book};
+ghost use Rattle.sc_keep.specs.Lists.{book_of};
+ghost use Rattle.sc_keep.specs.Started.{IsEndedBy};
 
 use crate::lists::Lists;
 use crate::rival::{Rival, is_below};
 use crate::units::conflict;
 use sc_data::{Clause, Numbered};
+use sc_demod::Demods;
 use sc_reading::Home;
 use sc_steps::Derived;
 use sc_term::{Mem, copy};
@@ -206,17 +212,36 @@ fn first_ending(alloc: Global, homes: &[Home], all: &[Numbered]) -> Mem<Option<E
     Ok(best)
 }
 
-/// The lists at the start, the demodulators, and the number of the empty clause where the run ends at once.
+/// The lists at the start, and the number of the empty clause where the run ends at once.
 #[derive(Drop)]
 pub struct Started {
     pub lists: Lists,
-    pub demods: Items<Numbered>,
     pub goal: Option<u32>,
+}
+
+/// The demodulators of the input, in order.
+fn demodulators(alloc: Global, all: &[Numbered], homes: &[Home]) -> Mem<Demods>
+    requires rising { AllPairs (λ p q. p.number < q.number) all.now }
+    requires are { All (λ p. numbered_element homes.now p.number ≡ Some Demodulators → IsDemodulator p.clause) all.now }
+    ensures { IfOk result (λ ds. IsFilter (λ p. numbered_element homes.now p.number ≡ Some Demodulators) all.now ds) }
+{
+    let mut ds = Demods::new(alloc);
+    for p in all {
+        if stands_in(homes, p.number, Home::Demodulators) {
+            ds.push(Numbered {
+                number: p.number,
+                clause: copy(alloc, &p.clause)?,
+            })?;
+        }
+    }
+    Ok(ds)
 }
 
 /// The input clauses in their lists; nothing is derived.
 fn opened(alloc: Global, homes: &[Home], all: &[Numbered]) -> Mem<Started>
-    ensures opens { IfOk result (λ started. (problem : Stated) → HasInput homes.now all.now problem → OpensBook problem (started_book started)) }
+    requires rising { AllPairs (λ p q. p.number < q.number) all.now }
+    requires demods { All (λ p. numbered_element homes.now p.number ≡ Some Demodulators → IsDemodulator p.clause) all.now }
+    ensures opens { IfOk result (λ started. (problem : Stated) → HasInput homes.now all.now problem → OpensBook problem (book_of started.lists)) }
     ensures no_goal { IfOk result (λ started. started.goal ≡ None) }
 {
     Ok(Started {
@@ -225,9 +250,9 @@ fn opened(alloc: Global, homes: &[Home], all: &[Numbered]) -> Mem<Started>
             usable: at_home(alloc, all, homes, Home::Usable)?,
             sos: at_home(alloc, all, homes, Home::Sos)?,
             passive: at_home(alloc, all, homes, Home::Passive)?,
+            demods: demodulators(alloc, all, homes)?,
             kept: Items::new(alloc),
         },
-        demods: at_home(alloc, all, homes, Home::Demodulators)?,
         goal: None,
     })
 }
@@ -254,15 +279,16 @@ fn end(started: &mut Started, found: Option<Ending>, next: u32) -> Mem<()>
     }
 }
 
-/// The start of a run (`Starts`): the input clauses, which are canonical and have less than 2^30 variables, go to the
-/// lists of their homes under their numbers, from 1. The first, by number, that is empty, or is a unit that conflicts
+/// The start of a run (`Starts`): the input clauses, which are canonical and within the limits, go to the lists of their
+/// homes under their numbers, from 1. The first, by number, that is empty, or is a unit that conflicts
 /// with an earlier one, ends the run: the goal is then its number, or the next one with the empty clause of the two,
 /// which is derived. Demodulators conflict with none.
 pub fn start_lists(alloc: Global, inputs: &[Clause], homes: &[Home]) -> Mem<Started>
     requires few { length inputs.now + 1 < 2 ^ 32 }
     requires fit { All IsFitClause inputs.now }
+    requires demodulators { AllByRecursion FitsHome (zip homes.now inputs.now) }
     ensures { IfOk result (λ started. (problem : Stated) → problem.inputs ≡ inputs.now → problem.homes ≡ homes.now
-        → Starts problem (started_book started) started.goal) }
+        → Starts problem (book_of started.lists) started.goal) }
 {
     let all = numbered(alloc, inputs)?;
     let mut started = opened(alloc, homes, all.as_slice())?;

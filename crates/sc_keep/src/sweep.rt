@@ -1,12 +1,13 @@
-//! Back subsumption: the clauses that a new one subsumes are found and deleted.
+//! The clauses that a new one subsumes or rewrites are found, and clauses are taken out of lists.
 
 ghost use Rattle.std.specs.Prelude.{◌≡◌, ◌↔◌, ◌++◌, ℕ, List, map, IsTrue, IfOk, OnOk, nat_eq};
 ghost use Rattle.std.specs.List.{list_any};
 ghost use Rattle.sc_data.specs.declared.Numbered.{Numbered as ANumbered};
 ghost use Rattle.sc_rules.specs.Order.{IsFilter};
-ghost use Rattle.sc_keep.specs.Sweep.{IsOtherSubsumed, numbers, without_numbers};
+ghost use Rattle.sc_keep.specs.Sweep.{IsOtherReducible, IsOtherSubsumed, numbers, without_numbers};
 
 use sc_data::Numbered;
+use sc_demod::has_redex;
 use sc_subsume::subsumes;
 use sc_term::Mem;
 use sqlite_items::Items;
@@ -29,6 +30,29 @@ pub fn note_subsumed(alloc: Global, n: &Numbered, ps: &[Numbered], gone: &mut Ve
 {
     for p in ps {
         if is_subsumed(alloc, n, p)? {
+            gone.push(p.number)?;
+        }
+    }
+    Ok(())
+}
+
+/// Whether the clause is another that has a redex by the new one.
+fn is_reducible(alloc: Global, n: &Numbered, p: &Numbered) -> Mem<bool>
+    ensures { IfOk result (λ is. IsTrue is ↔ IsOtherReducible n.now p.now) }
+{
+    if n.number == p.number {
+        return Ok(false);
+    }
+    Ok(has_redex(alloc, &p.clause, n)?)
+}
+
+/// Adds the numbers of the other clauses that have a redex by the new one.
+pub fn note_reducible(alloc: Global, n: &Numbered, ps: &[Numbered], gone: &mut Vec<u32>) -> Mem<()>
+    ensures { OnOk result ((picked : List ANumbered) × IsFilter (IsOtherReducible n.now) ps.now picked
+        × (gone.new.items ≡ gone.old.items ++ numbers picked)) }
+{
+    for p in ps {
+        if is_reducible(alloc, n, p)? {
             gone.push(p.number)?;
         }
     }

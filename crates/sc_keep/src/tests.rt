@@ -1,92 +1,41 @@
-ghost use Rattle.std.specs.Prelude.{◌≡◌, ◌<◌, ◌≤◌, ◌+◌, ◌^◌, IfOk, length};
+ghost use Rattle.std.specs.Prelude.{◌≡◌, ◌<◌, ◌+◌, ◌^◌, IfOk, length};
 ghost use Rattle.sc_rules.specs.Book.{numbered_clauses};
 
-use crate::{Book, needs_no_equality};
-use sc_data::{Clause, Line, Step, SymId, Term};
+use crate::Book;
+use sc_data::{Clause, Line, Step};
 use sc_input::read_problem;
 use sc_problem::Problem;
 use sc_rules::{Fate, Processed};
 use sc_steps::{Made, check, check_derivation};
-use sc_term::{MAX_DEPTH, MAX_WEIGHT, Mem, copy, depth, full_width, instance, weight};
+use sc_term::{MAX_DEPTH, MAX_WEIGHT, Mem, copy, depth, weight};
 use sqlite_items::Items;
 use std::alloc::Global;
 
-const TEXT: &[u8] = b"assign(max_weight,3). assign(max_literals,2). list(usable).
-p(x). q | -q. r(a,b,c). q | s | t. q | q. -p(b) | -p(b).
+/// Clause 10, a demodulator, rewrites 9 to v(a). The merged 6 becomes one, and brings 7 back, which is rewritten to u(a).
+const TEXT: &[u8] =
+    b"set(dynamic_demod). set(back_demod). assign(max_weight,4). assign(max_literals,2).
+list(usable).
+p(x). q | -q. r(a,b,c,d). q | s | t. q | q. g(a) = a | g(a) = a. u(g(a)). -u(a). v(f(a)).
+end_of_list.
+list(demodulators).
+f(x) = x.
 end_of_list.";
 
-/// `a`, by its first occurrence in the text.
-const A: SymId = SymId(4);
-
-/// The problem that the text spells, where it is one.
-fn problem(alloc: Global, text: &[u8]) -> Option<Problem> {
-    match read_problem(alloc, text) {
-        Ok(problem) => Some(problem),
-        Err(_) => None,
-    }
-}
-
-/// The book of the problem after its start, where that doesn't end the run.
-fn opened(alloc: Global, problem: &Problem) -> Mem<Option<Book>> {
-    if !needs_no_equality(problem) {
-        return Ok(None);
-    }
-    let mut book = Book::new(alloc, problem)?;
-    match book.start()? {
-        Some(_) => Ok(None),
-        None => Ok(Some(book)),
-    }
-}
-
-/// The lines with one more, as the derivation of its clause.
-fn ended(alloc: Global, mut lines: Items<Line>, step: Step, clause: Clause) -> Mem<Option<Made>> {
-    if weight(&clause) > MAX_WEIGHT || depth(&clause) > MAX_DEPTH {
-        return Ok(None);
-    }
-    lines.push(Line {
-        step,
-        clause: copy(alloc, &clause)?,
-    })?;
-    Ok(Some(Made { clause, lines }))
-}
-
-/// Clause number `n`, where there is one.
-fn clause_of(alloc: Global, book: &Book, n: u32) -> Mem<Option<Clause>> {
+/// Clause number `n` by itself, where there is one.
+fn input(alloc: Global, book: &Book, n: u32) -> Mem<Option<Made>> {
     if n == 0 || u64::from(n) > book.clause_count() {
         return Ok(None);
     }
-    Ok(Some(copy(alloc, book.clause(n))?))
-}
-
-/// Clause number `n` by itself.
-fn input(alloc: Global, book: &Book, n: u32) -> Mem<Option<Made>> {
-    match clause_of(alloc, book, n)? {
-        Some(clause) => ended(alloc, Items::new(alloc), Step::Input(n), clause),
-        None => Ok(None),
-    }
-}
-
-/// The instance of clause number `n` by `a`.
-fn ground(alloc: Global, book: &Book, n: u32) -> Mem<Option<Made>> {
-    let clause = match clause_of(alloc, book, n)? {
-        Some(clause) => clause,
-        None => return Ok(None),
-    };
-    if full_width(&clause) != 1 {
+    let clause = copy(alloc, book.clause(n))?;
+    if weight(&clause) > MAX_WEIGHT || depth(&clause) > MAX_DEPTH {
         return Ok(None);
     }
-    let mut terms = Items::new(alloc);
-    terms.push(Term::App(A, Items::new(alloc)))?;
-    let made = match instance(alloc, &clause, &terms)? {
-        Some(made) => made,
-        None => return Ok(None),
-    };
     let mut lines = Items::new(alloc);
     lines.push(Line {
         step: Step::Input(n),
-        clause,
+        clause: copy(alloc, &clause)?,
     })?;
-    ended(alloc, lines, Step::Instance { of: 1, terms }, made)
+    Ok(Some(Made { clause, lines }))
 }
 
 /// The clauses so far by their numbers.
@@ -115,54 +64,46 @@ fn process(alloc: Global, book: &mut Book, made: Made) -> Mem<Option<Processed>>
     }
 }
 
-/// Whether a conclusion has the fate, and clauses of these numbers are deleted for it.
+/// Whether the conclusion that is clause `n` by itself has the fate; clauses of the numbers `gone` are deleted for it, and
+/// of them those of the numbers `again` come again.
 fn meets(
     alloc: Global,
     book: &mut Book,
-    made: Option<Made>,
+    n: u32,
     fate: Fate,
     gone: &[u32],
+    again: &[u32],
 ) -> Mem<bool> {
-    let made = match made {
+    let made = match input(alloc, book, n)? {
         Some(made) => made,
         None => return Ok(false),
     };
     match process(alloc, book, made)? {
-        Some(out) => Ok(out.fate == fate && out.gone.as_slice() == gone && out.again.is_empty()),
+        Some(out) => Ok(
+            out.fate == fate && out.gone.as_slice() == gone && out.again.as_slice() == again,
+        ),
         None => Ok(false),
     }
 }
 
-/// The first of the clauses whose conclusion doesn't meet its fate. That of the first clause is its instance by `a`.
+/// The first of the clauses whose conclusion doesn't meet its fate.
 fn first_astray(alloc: Global, book: &mut Book) -> Mem<Option<u32>> {
-    let rows: [(u32, Fate, &[u32]); 5] = [
-        (2, Fate::Taut, &[]),
-        (3, Fate::Heavy, &[]),
-        (4, Fate::Long, &[]),
-        (5, Fate::Kept(7), &[2, 4, 5]),
-        (6, Fate::Empty(9), &[]),
+    let rows: [(u32, Fate, &[u32], &[u32]); 8] = [
+        (1, Fate::Subsumed(1), &[], &[]),
+        (2, Fate::Taut, &[], &[]),
+        (3, Fate::Heavy, &[], &[]),
+        (4, Fate::Long, &[], &[]),
+        (5, Fate::Kept(11), &[2, 4, 5], &[]),
+        (9, Fate::Kept(12), &[], &[]),
+        (6, Fate::Kept(13), &[6, 7], &[7]),
+        (7, Fate::Empty(15), &[], &[]),
     ];
-    let made = ground(alloc, book, 1)?;
-    if !meets(alloc, book, made, Fate::Subsumed(1), &[])? {
-        return Ok(Some(1));
-    }
-    for (n, fate, gone) in rows {
-        let made = input(alloc, book, n)?;
-        if !meets(alloc, book, made, fate, gone)? {
+    for (n, fate, gone, again) in rows {
+        if !meets(alloc, book, n, fate, gone, again)? {
             return Ok(Some(n));
         }
     }
     Ok(None)
-}
-
-/// Whether two clauses were kept, `q` as 7 and `-p(b)` as 8.
-fn has_kept(book: &Book) -> bool {
-    match book.kept().as_slice() {
-        [first, second] => {
-            (first.number, first.weight, second.number, second.weight) == (7, 1, 8, 2)
-        }
-        _ => false,
-    }
 }
 
 /// Whether the empty clause of that number has a proof from the input clauses.
@@ -177,18 +118,32 @@ fn is_proved(book: &Book, inputs: &Items<Clause>, goal: u32) -> Mem<bool> {
     Ok(check(inputs, &lines).is_ok())
 }
 
+/// The first conclusion that goes astray after the start, and whether 15 is proved and the demodulators are 10 and 13.
+fn run(alloc: Global, book: &mut Book, inputs: &Items<Clause>) -> Mem<(Option<u32>, bool, bool)> {
+    if book.start()?.is_some() {
+        return Ok((Some(0), false, false));
+    }
+    let astray = first_astray(alloc, book)?;
+    let proved = is_proved(book, inputs, 15)?;
+    let has_both = match book.demods() {
+        [first, second] => first.number == 10 && second.number == 13,
+        _ => false,
+    };
+    Ok((astray, proved, has_both))
+}
+
+/// The same from the problem's own book.
+fn run_book(alloc: Global, problem: &Problem) -> Mem<(Option<u32>, bool, bool)> {
+    let mut book = Book::new(alloc, problem)?;
+    run(alloc, &mut book, problem.inputs())
+}
+
+/// The same from the text.
 fn processed(alloc: Global) -> Mem<(Option<u32>, bool, bool)> {
-    let problem = match problem(alloc, TEXT) {
-        Some(problem) => problem,
-        None => return Ok((Some(0), false, false)),
-    };
-    let mut book = match opened(alloc, &problem)? {
-        Some(book) => book,
-        None => return Ok((Some(0), false, false)),
-    };
-    let astray = first_astray(alloc, &mut book)?;
-    let proved = is_proved(&book, problem.inputs(), 9)?;
-    Ok((astray, has_kept(&book), proved))
+    match read_problem(alloc, TEXT) {
+        Ok(problem) => run_book(alloc, &problem),
+        Err(_) => Ok((Some(0), false, false)),
+    }
 }
 
 #[test]
@@ -197,29 +152,30 @@ fn conclusions_meet_their_fates(rt: HostRuntime) {
 }
 
 /// Whether the first clause of sos goes to usable, and is then the one clause there.
-fn is_given(book: &mut Book, wanted: u32) -> Mem<bool> {
+fn is_given(book: &mut Book) -> Mem<bool> {
+    if book.start()?.is_some() {
+        return Ok(false);
+    }
     let n = match book.sos().get(0) {
         Some(p) => p.number,
         None => return Ok(false),
     };
     book.give(n)?;
     let is_moved = match book.usable().as_slice() {
-        [p] => p.number == wanted,
+        [p] => p.number == 1,
         _ => false,
     };
     Ok(is_moved && book.sos().is_empty())
 }
 
 fn given(alloc: Global) -> Mem<bool> {
-    let problem = match problem(alloc, b"list(sos). q. end_of_list.") {
-        Some(problem) => problem,
-        None => return Ok(false),
-    };
-    let mut book = match opened(alloc, &problem)? {
-        Some(book) => book,
-        None => return Ok(false),
-    };
-    is_given(&mut book, 1)
+    match read_problem(alloc, b"list(sos). q. end_of_list.") {
+        Ok(problem) => {
+            let mut book = Book::new(alloc, &problem)?;
+            is_given(&mut book)
+        }
+        Err(_) => Ok(false),
+    }
 }
 
 #[test]

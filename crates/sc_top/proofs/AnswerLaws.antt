@@ -13,7 +13,7 @@ use Rattle.sc_written.specs.ProofReading.{proof_of}
 use Rattle.sc_steps.proofs.ModelLaws.{not_all_true}
 use Rattle.sc_top.specs.NoModel.{HasNoModel}
 use Rattle.sc_top.specs.declared.answer.Answer.{Answer}
-use Rattle.sc_top.specs.declared.answer.Answer.TheVariants.{ProofChecked, NotAProof, Ran, InputRefused, WordsRefused, ReadFault, OutOfMemory}
+use Rattle.sc_top.specs.declared.answer.Answer.TheVariants.{ProofChecked, NotAProof, Ran, Model, InputRefused, WordsRefused, ReadFault, OutOfMemory}
 use Rattle.sc_top.specs.Answers.{most_bytes, section_behind, spelled_by_few, spelled, HasProof, HasFault, IsAnswerTo}
 
 -- refuted clauses have no model over whole numbers
@@ -127,9 +127,13 @@ one_answer bytes (InputRefused p) (InputRefused q) h k =
     let same : Err p ≡ Err q = sym h ∙ k in
     ap InputRefused (ap (λ (r : Result (StatedItems × List Line) Place). elim r [ Ok v ↦ p | Err q ↦ q ]) same)
 one_answer bytes (Ran o text) b h k = absurd h
+one_answer bytes (Model m) b h k = absurd h
 one_answer bytes (ProofChecked m) (Ran o text) h k = absurd k
+one_answer bytes (ProofChecked m) (Model n) h k = absurd k
 one_answer bytes (NotAProof m) (Ran o text) h k = absurd k
+one_answer bytes (NotAProof m) (Model n) h k = absurd k
 one_answer bytes (InputRefused p) (Ran o text) h k = absurd k
+one_answer bytes (InputRefused p) (Model n) h k = absurd k
 one_answer bytes WordsRefused b h k = absurd h
 one_answer bytes ReadFault b h k = absurd h
 one_answer bytes OutOfMemory b h k = absurd h

@@ -1,4 +1,4 @@
-pub mod WordLaws
 pub mod AnswerLaws
 pub mod ProveLaws
+pub mod ModelAnswers
 pub mod ToldLaws

@@ -3,14 +3,13 @@ use Rattle.std.proofs.Common.{◌≡◌, ◌∙◌, sym, ap, subst, refl, ℕ, �
 use Rattle.std.specs.Prelude.{nat_lt}
 use Rattle.std.proofs.lemmas.Bool.{lt-ltb, le-ltb}
 use Rattle.sc_reading.specs.declared.fault.Place.{Place}
-use Rattle.sc_reading.specs.declared.fault.InputKind.TheVariants.{Unsupported, TooLong}
+use Rattle.sc_reading.specs.declared.fault.InputKind.TheVariants.{TooLong}
 use Rattle.sc_reading.specs.Faults.{place}
 use Rattle.sc_reading.specs.Problem.{Stated}
 use Rattle.sc_reading.specs.Reading.{problem_of}
 use Rattle.sc_rules.specs.declared.row.Outcome.{Outcome}
 use Rattle.sc_rules.specs.declared.row.Outcome.TheVariants.{Proof}
 use Rattle.sc_rules.specs.Run.{looks_of}
-use Rattle.sc_keep.specs.State.{NeedsNoEquality}
 use Rattle.sc_run_written.specs.RunValue.{RunValue}
 use Rattle.sc_run_written.specs.RunText.{run_text}
 use Rattle.sc_reading.proofs.ReadProblems.{read_problem}
@@ -18,9 +17,9 @@ use Rattle.sc_world.proofs.OneRecord.{one_record}
 use Rattle.sc_world.specs.Recorded.{IsRecord, TellsEnd, no_version}
 use Rattle.sc_top.specs.NoModel.{HasNoModel}
 use Rattle.sc_top.specs.Answers.{most_bytes}
-use Rattle.sc_top.specs.Runs.{spelled_problem, IsUnbuilt, HasRun, HasUnbuilt, IsProveAnswer}
+use Rattle.sc_top.specs.Runs.{spelled_problem, HasRun, IsProveAnswer}
 use Rattle.sc_top.specs.declared.answer.Answer.{Answer}
-use Rattle.sc_top.specs.declared.answer.Answer.TheVariants.{ProofChecked, NotAProof, Ran, InputRefused, WordsRefused, ReadFault, OutOfMemory}
+use Rattle.sc_top.specs.declared.answer.Answer.TheVariants.{ProofChecked, NotAProof, Ran, Model, InputRefused, WordsRefused, ReadFault, OutOfMemory}
 use Rattle.sc_top.proofs.AnswerLaws.{no_model_of}
 
 pub few_spell : (bytes : List ℕ) (r : Result Stated Place) → length bytes ≤ most_bytes → problem_of bytes ≡ r → spelled_problem bytes ≡ r
@@ -38,21 +37,17 @@ no_model problem run recorded is = by recorded.tells.proof
     by (inl h) = no_model_of problem.inputs h.1.refuted
     by (inr h) = absurd (h.0 is)
 
-pub has_run : (bytes : List ℕ) (problem : Stated) (run : RunValue) (text : List ℕ) → spelled_problem bytes ≡ Ok problem → NeedsNoEquality problem
+pub has_run : (bytes : List ℕ) (problem : Stated) (run : RunValue) (text : List ℕ) → spelled_problem bytes ≡ Ok problem
     → IsRecord problem run → text ≡ run_text problem.symbols run → IsProveAnswer bytes (Ran run.outcome text)
-has_run bytes problem run text read built recorded printed = record {
+has_run bytes problem run text read recorded printed = record {
   problem = problem;
   is_read = read;
-  built = built;
   run = run;
   recorded = recorded;
   ended = refl;
   printed = printed;
   no_model = no_model problem run recorded;
 }
-
-pub has_unbuilt : (bytes : List ℕ) (problem : Stated) → spelled_problem bytes ≡ Ok problem → IsUnbuilt problem → IsProveAnswer bytes (InputRefused (place 0 Unsupported))
-has_unbuilt bytes problem read unbuilt = inr (record { problem = problem; is_read = read; unbuilt = unbuilt; refused = refl })
 
 -- ---- the bytes decide one answer
 
@@ -72,16 +67,11 @@ one_text bytes o p text other h k =
     let run : h.run ≡ k.run = one_record k.problem (read_problem bytes k.problem (spells bytes k.problem k.is_read)) h.run k.run (subst (λ (p : Stated). IsRecord p h.run) problem h.recorded) k.recorded in
     (sym h.ended ∙ ap (λ (r : RunValue). r.outcome) run ∙ k.ended, h.printed ∙ (λ j. run_text (problem j).symbols (run j)) ∙ sym k.printed)
 
-both_refused : (bytes : List ℕ) (p q : Place) → (spelled_problem bytes ≡ Err p) ⊎ HasUnbuilt p bytes → (spelled_problem bytes ≡ Err q) ⊎ HasUnbuilt q bytes → p ≡ q
-both_refused bytes p q (inl e) (inl f) = let both : Err p ≡ Err q = sym e ∙ f in cc
-both_refused bytes p q (inl e) (inr k) = let both : Err p ≡ Ok k.problem = sym e ∙ k.is_read in cc
-both_refused bytes p q (inr h) (inl f) = let both : Ok h.problem ≡ Err q = sym h.is_read ∙ f in cc
-both_refused bytes p q (inr h) (inr k) = h.refused ∙ sym k.refused
+both_refused : (bytes : List ℕ) (p q : Place) → spelled_problem bytes ≡ Err p → spelled_problem bytes ≡ Err q → p ≡ q
+both_refused bytes p q e f = let both : Err p ≡ Err q = sym e ∙ f in cc
 
-run_or_refused : (bytes : List ℕ) (o : Outcome) (text : List ℕ) (p : Place) → HasRun o text bytes → (spelled_problem bytes ≡ Err p) ⊎ HasUnbuilt p bytes → ⊥
-run_or_refused bytes o text p h (inl e) = let both : Ok h.problem ≡ Err p = sym h.is_read ∙ e in cc
-run_or_refused bytes o text p h (inr k) =
-    k.unbuilt (subst NeedsNoEquality (one_problem bytes h.problem k.problem h.is_read k.is_read) h.built)
+run_or_refused : (bytes : List ℕ) (o : Outcome) (text : List ℕ) (p : Place) → HasRun o text bytes → spelled_problem bytes ≡ Err p → ⊥
+run_or_refused bytes o text p h e = let both : Ok h.problem ≡ Err p = sym h.is_read ∙ e in cc
 
 pub one_prove_answer : (bytes : List ℕ) (a b : Answer) → IsProveAnswer bytes a → IsProveAnswer bytes b → a ≡ b
 one_prove_answer bytes (Ran o text) (Ran p other) h k = let same = one_text bytes o p text other h k in λ j. Ran (same.0 j) (same.1 j)
@@ -90,16 +80,19 @@ one_prove_answer bytes (InputRefused p) (Ran o text) h k = absurd (run_or_refuse
 one_prove_answer bytes (InputRefused p) (InputRefused q) h k = ap InputRefused (both_refused bytes p q h k)
 one_prove_answer bytes (ProofChecked m) b h k = absurd h
 one_prove_answer bytes (NotAProof m) b h k = absurd h
+one_prove_answer bytes (Model m) b h k = absurd h
 one_prove_answer bytes WordsRefused b h k = absurd h
 one_prove_answer bytes ReadFault b h k = absurd h
 one_prove_answer bytes OutOfMemory b h k = absurd h
 one_prove_answer bytes (Ran o text) (ProofChecked m) h k = absurd k
 one_prove_answer bytes (Ran o text) (NotAProof m) h k = absurd k
+one_prove_answer bytes (Ran o text) (Model m) h k = absurd k
 one_prove_answer bytes (Ran o text) WordsRefused h k = absurd k
 one_prove_answer bytes (Ran o text) ReadFault h k = absurd k
 one_prove_answer bytes (Ran o text) OutOfMemory h k = absurd k
 one_prove_answer bytes (InputRefused p) (ProofChecked m) h k = absurd k
 one_prove_answer bytes (InputRefused p) (NotAProof m) h k = absurd k
+one_prove_answer bytes (InputRefused p) (Model m) h k = absurd k
 one_prove_answer bytes (InputRefused p) WordsRefused h k = absurd k
 one_prove_answer bytes (InputRefused p) ReadFault h k = absurd k
 one_prove_answer bytes (InputRefused p) OutOfMemory h k = absurd k

@@ -1,54 +1,42 @@
 -- The answer to bytes whose problem is to be proved: the text of a run.
-use Rattle.std.specs.Prelude.{◌≡◌, ◌⊎◌, ℕ, List, Result, Ok, Err, true, false, length, nat_lt}
-use Rattle.sc_reading.specs.declared.fault.InputKind.TheVariants.{Unsupported, TooLong}
+use Rattle.std.specs.Prelude.{◌≡◌, ℕ, List, Result, Ok, Err, true, false, length, nat_lt}
+use Rattle.sc_reading.specs.declared.fault.InputKind.TheVariants.{TooLong}
 use Rattle.sc_reading.specs.declared.fault.Place.{Place}
 use Rattle.sc_reading.specs.Faults.{place}
 use Rattle.sc_reading.specs.Problem.{Stated}
 use Rattle.sc_reading.specs.Reading.{problem_of}
 use Rattle.sc_rules.specs.declared.row.Outcome.{Outcome}
 use Rattle.sc_rules.specs.declared.row.Outcome.TheVariants.{Proof}
-use Rattle.sc_keep.specs.State.{NeedsNoEquality}
 use Rattle.sc_run_written.specs.RunValue.{RunValue}
 use Rattle.sc_run_written.specs.RunText.{run_text}
 use Rattle.sc_world.specs.Recorded.{IsRecord}
 use Rattle.sc_top.specs.NoModel.{HasNoModel}
 use Rattle.sc_top.specs.Answers.{most_bytes}
 use Rattle.sc_top.specs.declared.answer.Answer.{Answer}
-use Rattle.sc_top.specs.declared.answer.Answer.TheVariants.{ProofChecked, NotAProof, Ran, InputRefused, WordsRefused, ReadFault, OutOfMemory}
+use Rattle.sc_top.specs.declared.answer.Answer.TheVariants.{ProofChecked, NotAProof, Ran, Model, InputRefused, WordsRefused, ReadFault, OutOfMemory}
 
 -- the problem that the bytes spell if they aren't too many, or their first fault
 abbrev pub spelled_problem : List ℕ → Result Stated Place
 spelled_problem bytes = elim (nat_lt most_bytes (length bytes)) [ true ↦ Err (place most_bytes TooLong) | false ↦ problem_of bytes ]
 
--- the problem asks for what the prover doesn't do yet: a step on equality
-abbrev pub IsUnbuilt : Stated → Type 0
-IsUnbuilt problem = ¬ NeedsNoEquality problem
-
--- The bytes spell a problem that asks for nothing unbuilt, and the text is that of the run of it, which ended so. Where
--- that is with a proof, the input clauses can't all be true.
+-- The bytes spell a problem, and the text is that of the run of it, which ended so. Where that is with a proof, the input
+-- clauses can't all be true.
 pub record HasRun (o : Outcome) (text : List ℕ) (bytes : List ℕ) : Type 0 where
   pub problem : Stated
   pub is_read : spelled_problem bytes ≡ Ok problem
-  pub built : NeedsNoEquality problem
   pub run : RunValue
   pub recorded : IsRecord problem run
   pub ended : run.outcome ≡ o
   pub printed : text ≡ run_text problem.symbols run
   pub no_model : o ≡ Proof → HasNoModel problem.inputs
 
--- the bytes spell a problem that asks for what is unbuilt, and are refused at their first one
-pub record HasUnbuilt (p : Place) (bytes : List ℕ) : Type 0 where
-  pub problem : Stated
-  pub is_read : spelled_problem bytes ≡ Ok problem
-  pub unbuilt : IsUnbuilt problem
-  pub refused : p ≡ place 0 Unsupported
-
 -- the answer that the bytes decide, where the problem that they spell is to be proved
 abbrev pub IsProveAnswer : List ℕ → Answer → Type 0
 IsProveAnswer bytes (ProofChecked n) = ⊥
 IsProveAnswer bytes (NotAProof k) = ⊥
 IsProveAnswer bytes (Ran o text) = HasRun o text bytes
-IsProveAnswer bytes (InputRefused p) = (spelled_problem bytes ≡ Err p) ⊎ HasUnbuilt p bytes
+IsProveAnswer bytes (Model m) = ⊥
+IsProveAnswer bytes (InputRefused p) = spelled_problem bytes ≡ Err p
 IsProveAnswer bytes WordsRefused = ⊥
 IsProveAnswer bytes ReadFault = ⊥
 IsProveAnswer bytes OutOfMemory = ⊥

@@ -4,20 +4,28 @@ use Rattle.std.specs.declared.alloc.Global.{Global}
 use Rattle.std.specs.declared.option.Option.{Option}
 use Rattle.sc_base.specs.Causes.{Rose}
 use Rattle.sc_base.specs.Taken.{Grows, GrowsByPart}
-use Rattle.sc_top.specs.declared.commands.Command.{Command}
-use Rattle.sc_top.specs.declared.commands.Command.TheVariants.{Check, Prove}
+use Rattle.sc_words.specs.declared.commands.Command.{Command}
+use Rattle.sc_words.specs.declared.commands.Command.TheVariants as command
 use Rattle.sc_top.specs.declared.answer.Answer.{Answer}
-use Rattle.sc_top.specs.declared.answer.Answer.TheVariants.{ProofChecked, NotAProof, Ran, InputRefused, WordsRefused, ReadFault, OutOfMemory}
-use Rattle.sc_top.specs.Words.{Asks}
+use Rattle.sc_top.specs.declared.answer.Answer.TheVariants.{ProofChecked, NotAProof, Ran, Model, InputRefused, WordsRefused, ReadFault, OutOfMemory}
+use Rattle.sc_words.specs.Words.{Asks}
 use Rattle.sc_top.specs.Answers.{status_of, text_of, IsAnswerTo}
 use Rattle.sc_top.specs.Runs.{IsProveAnswer}
+use Rattle.sc_top.specs.Models.{IsModelAnswer}
 
--- the answer that the bytes decide, for the command
+-- an answer to the bytes, for the command
 abbrev pub IsAnswerBy : Command → List ℕ → Answer → Type 0
-IsAnswerBy Check bytes a = IsAnswerTo bytes a
-IsAnswerBy Prove bytes a = IsProveAnswer bytes a
+IsAnswerBy command.Check bytes a = IsAnswerTo bytes a
+IsAnswerBy command.Prove bytes a = IsProveAnswer bytes a
+IsAnswerBy (command.Model size nodes) bytes a = IsModelAnswer size nodes bytes a
 
--- the words ask for a command, and the bytes decide the answer
+-- the bytes decide one answer for the command; a search for a model may be given up where its budget is spent
+abbrev pub IsDecisive : Command → Type 0
+IsDecisive command.Check = ⊤
+IsDecisive command.Prove = ⊤
+IsDecisive (command.Model size nodes) = ⊥
+
+-- the words ask for a command, and the answer is one to the bytes
 abbrev pub IsAnswerFor : List (String Global) → List ℕ → Answer → Type 0
 IsAnswerFor words bytes a = (command : Command) × Asks words command × IsAnswerBy command bytes a
 
@@ -33,6 +41,7 @@ Stands words told before now OutOfMemory = ⊤
 Stands words told before now (ProofChecked n) = IfSome told (λ bytes. IsAnswerFor words bytes (ProofChecked n))
 Stands words told before now (NotAProof k) = IfSome told (λ bytes. IsAnswerFor words bytes (NotAProof k))
 Stands words told before now (Ran o text) = IfSome told (λ bytes. IsAnswerFor words bytes (Ran o text))
+Stands words told before now (Model m) = IfSome told (λ bytes. IsAnswerFor words bytes (Model m))
 Stands words told before now (InputRefused p) = IfSome told (λ bytes. IsAnswerFor words bytes (InputRefused p))
 
 -- ---- what is written
@@ -62,6 +71,6 @@ pub record IsCutShort (words : List (String Global)) (told : Option (List ℕ)) 
 abbrev pub IsDecided : Command → Option (List ℕ) → Option (List ℕ) → ℕ → List ℕ → Type 0
 IsDecided command old new status bytes = (a : Answer) → IsAnswerBy command bytes a → IsWritten old new status a ⊎ (status ≡ 5) ⊎ (status ≡ 7)
 
--- there is an answer that the bytes decide, where their problem is to be proved, and it was written whole
-abbrev pub IsRunOf : Option (List ℕ) → Option (List ℕ) → ℕ → List ℕ → Type 0
-IsRunOf old new status bytes = (a : Answer) × IsProveAnswer bytes a × IsWritten old new status a
+-- an answer to the bytes was written whole
+abbrev pub IsToldOf : Command → Option (List ℕ) → Option (List ℕ) → ℕ → List ℕ → Type 0
+IsToldOf command old new status bytes = (a : Answer) × IsAnswerBy command bytes a × IsWritten old new status a

@@ -1,13 +1,28 @@
 //! What the program answers: each answer has a status and a text.
 
 ghost use Rattle.std.specs.Prelude.{◌≡◌, ◌++◌, IfOk, IfSome, IfNone, codes, decimal, string_bytes};
-ghost use Rattle.sc_top.specs.Answers.{outcome_status, status_of, text_of, IsNoRun, kind_text};
+ghost use Rattle.sc_top.specs.Answers.{outcome_status, modelled_status, modelled_text, status_of, text_of, MakesModelledText, MakesText, kind_text};
 
 use sc_input::{InputKind, Place};
 use sc_rules::Outcome;
 use sc_term::Mem;
 use sqlite_items::Items;
 use std::alloc::Global;
+
+/// What became of a search for a model.
+#[derive(Debug, Drop)]
+pub enum Modelled {
+    /// The text of the first model.
+    Found { text: Items<u8> },
+    /// There is none of this size.
+    NoModel { size: u8 },
+    /// The budget of nodes was spent in this piece, from 1.
+    Spent { piece: u32 },
+    /// The size has so many entries, more than may be searched.
+    TooManyCells { count: u64 },
+    /// The clauses have so many instances, more than may be searched.
+    TooManyInstances { count: u64 },
+}
 
 /// An answer, before it is written.
 #[derive(Debug, Drop)]
@@ -18,6 +33,8 @@ pub enum Answer {
     NotAProof { line: u32 },
     /// The run of this text ended so.
     Ran { outcome: Outcome, text: Items<u8> },
+    /// A model was sought.
+    Model(Modelled),
     /// The bytes are refused at this one, for this kind of fault.
     InputRefused(Place),
     WordsRefused,
@@ -28,6 +45,8 @@ pub enum Answer {
 pub const MEMORY_TEXT: &str = "out of memory\n";
 
 pub const WORDS_TEXT: &str = "words refused\n";
+
+const READ_FAULT_TEXT: &str = "read fault\n";
 
 fn kind_text(kind: InputKind) -> &'static str
     ensures { result.now ≡ kind_text kind }
@@ -69,6 +88,49 @@ fn outcome_status(outcome: Outcome) -> u8
     }
 }
 
+/// The exit status of a search for a model.
+fn modelled_status(modelled: &Modelled) -> u8
+    ensures { result ≡ modelled_status modelled.now }
+{
+    match modelled {
+        Modelled::Found { .. } => 0,
+        Modelled::NoModel { .. } => 1,
+        Modelled::Spent { .. } => 2,
+        Modelled::TooManyCells { .. } => 2,
+        Modelled::TooManyInstances { .. } => 2,
+    }
+}
+
+/// The text of a search for a model, where that came with it.
+fn found_text(modelled: &Modelled) -> Option<&[u8]>
+    ensures some { IfSome result (λ text. text.now ≡ modelled_text modelled.now) }
+    ensures none { IfNone result (MakesModelledText modelled.now) }
+{
+    match modelled {
+        Modelled::Found { text } => Some(text.as_slice()),
+        Modelled::NoModel { .. } => None,
+        Modelled::Spent { .. } => None,
+        Modelled::TooManyCells { .. } => None,
+        Modelled::TooManyInstances { .. } => None,
+    }
+}
+
+/// The text of a search for a model, where that is made when it is written.
+fn modelled_text(alloc: Global, modelled: &Modelled) -> Mem<String>
+    requires { MakesModelledText modelled.now }
+    ensures { IfOk result (λ text. string_bytes text ≡ modelled_text modelled.now) }
+{
+    Ok(match modelled {
+        Modelled::Found { .. } => unreachable!(),
+        Modelled::NoModel { size } => format!(in alloc; "no model of size {size}\n")?,
+        Modelled::Spent { piece } => format!(in alloc; "spent piece {piece}\n")?,
+        Modelled::TooManyCells { count } => format!(in alloc; "too wide: {count} cells\n")?,
+        Modelled::TooManyInstances { count } => {
+            format!(in alloc; "too wide: {count} instances\n")?
+        }
+    })
+}
+
 impl Answer {
     /// The exit status.
     pub fn status(&self) -> u8
@@ -78,6 +140,7 @@ impl Answer {
             Answer::ProofChecked { .. } => 0,
             Answer::NotAProof { .. } => 1,
             Answer::Ran { outcome, .. } => outcome_status(*outcome),
+            Answer::Model(modelled) => modelled_status(modelled),
             Answer::InputRefused(_) => 3,
             Answer::WordsRefused => 4,
             Answer::ReadFault => 5,
@@ -85,45 +148,37 @@ impl Answer {
         }
     }
 
-    /// The text, where it is always the same.
-    pub fn fixed_text(&self) -> Option<&'static str>
-        ensures { IfSome result (λ text. text.now ≡ text_of self.now) }
+    /// The text, where it is there already: it came with the answer, or is always the same.
+    pub fn ready_text(&self) -> Option<&[u8]>
+        ensures some { IfSome result (λ text. text.now ≡ text_of self.now) }
+        ensures none { IfNone result (MakesText self.now) }
     {
         match self {
             Answer::ProofChecked { .. } => None,
             Answer::NotAProof { .. } => None,
-            Answer::Ran { .. } => None,
-            Answer::InputRefused(_) => None,
-            Answer::WordsRefused => Some(WORDS_TEXT),
-            Answer::ReadFault => Some("read fault\n"),
-            Answer::OutOfMemory => Some(MEMORY_TEXT),
-        }
-    }
-
-    /// The text of a run, where the answer has one.
-    pub fn run_text(&self) -> Option<&[u8]>
-        ensures some { IfSome result (λ text. text.now ≡ text_of self.now) }
-        ensures none { IfNone result (IsNoRun self.now) }
-    {
-        match self {
             Answer::Ran { text, .. } => Some(text.as_slice()),
-            _ => None,
+            Answer::Model(modelled) => found_text(modelled),
+            Answer::InputRefused(_) => None,
+            Answer::WordsRefused => Some(WORDS_TEXT.as_bytes()),
+            Answer::ReadFault => Some(READ_FAULT_TEXT.as_bytes()),
+            Answer::OutOfMemory => Some(MEMORY_TEXT.as_bytes()),
         }
     }
 
-    /// The text of any other answer, made anew.
+    /// The text, where it has to be made.
     pub fn made_text(&self, alloc: Global) -> Mem<String>
-        requires { IsNoRun self.now }
+        requires { MakesText self.now }
         ensures { IfOk result (λ text. string_bytes text ≡ text_of self.now) }
     {
         Ok(match self {
             Answer::ProofChecked { lines } => format!(in alloc; "proof checked: {lines} lines\n")?,
             Answer::NotAProof { line } => format!(in alloc; "not a proof: line {line}\n")?,
-            Answer::Ran { .. } => String::new(alloc),
+            Answer::Model(modelled) => modelled_text(alloc, modelled)?,
             Answer::InputRefused(place) => refused_text(alloc, place.at, kind_text(place.kind))?,
-            Answer::WordsRefused => format!(in alloc; "words refused\n")?,
-            Answer::ReadFault => format!(in alloc; "read fault\n")?,
-            Answer::OutOfMemory => format!(in alloc; "out of memory\n")?,
+            Answer::Ran { .. } => unreachable!(),
+            Answer::WordsRefused => unreachable!(),
+            Answer::ReadFault => unreachable!(),
+            Answer::OutOfMemory => unreachable!(),
         })
     }
 }

@@ -1,14 +1,12 @@
 //! The answer to a problem that is to be proved.
 
 ghost use Rattle.std.specs.Prelude.{◌≡◌, ◌≢◌, ◌≤◌, ◌⊎◌, ℕ, List, Ok, IfOk, length};
-ghost use Rattle.sc_keep.specs.State.{NeedsNoEquality};
 ghost use Rattle.sc_top.specs.declared.answer.Answer.TheVariants.{OutOfMemory};
 ghost use Rattle.sc_top.specs.Answers.{status_of};
 ghost use Rattle.sc_top.specs.Runs.{spelled_problem, IsProveAnswer};
 
 use crate::answer::Answer;
-use sc_input::{InputError, InputKind, Place, Problem, read_problem};
-use sc_keep::needs_no_equality;
+use sc_input::{InputError, Problem, read_problem};
 use sc_print_run::print_run;
 use sc_term::Mem;
 use sc_world::prove_alone;
@@ -17,7 +15,6 @@ use std::alloc::Global;
 
 /// The text of the run of the problem.
 fn run(alloc: Global, problem: &Problem) -> Mem<Answer>
-    requires { NeedsNoEquality problem.now }
     ensures decided { IfOk result (λ answer. (bytes : List ℕ) → spelled_problem bytes ≡ Ok problem.now → IsProveAnswer bytes answer) }
     ensures words { IfOk result (λ answer. status_of answer ≢ 4) }
 {
@@ -29,17 +26,11 @@ fn run(alloc: Global, problem: &Problem) -> Mem<Answer>
     })
 }
 
-/// The answer to a problem that was read. One that asks for what isn't built is refused at its first byte.
+/// The answer to a problem that was read.
 fn prove_problem(alloc: Global, problem: &Problem) -> Answer
     ensures decided { (bytes : List ℕ) → spelled_problem bytes ≡ Ok problem.now → IsProveAnswer bytes result ⊎ (result ≡ OutOfMemory) }
     ensures words { status_of result ≢ 4 }
 {
-    if !needs_no_equality(problem) {
-        return Answer::InputRefused(Place {
-            at: 0,
-            kind: InputKind::Unsupported,
-        });
-    }
     match run(alloc, problem) {
         Ok(answer) => answer,
         Err(_) => Answer::OutOfMemory,

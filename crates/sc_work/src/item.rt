@@ -1,22 +1,27 @@
-//! One item of the work list: the conclusion of a site is made and processed.
+//! One item of the work list: the conclusion of a site, or a clause that came back, is processed.
 
-ghost use Rattle.std.specs.Prelude.{◌≡◌, ◌≢◌, ◌<◌, ◌≤◌, ◌+◌, ◌^◌, ℕ, List, Some, true, IfOk, OnOk, MatchOption, length};
+ghost use Rattle.std.specs.Prelude.{◌≡◌, ◌≢◌, ◌<◌, ◌≤◌, ◌+◌, ◌++◌, ◌^◌, ℕ, List, Some, true, All, IfOk, OnOk, MatchOption, length};
 ghost use Rattle.sc_data.specs.declared.Clause.{Clause as AClause};
 ghost use Rattle.sc_data.specs.declared.Numbered.{Numbered as ANumbered};
 ghost use Rattle.sc_data.specs.Numbering.{numbered};
+ghost use Rattle.sc_data.specs.Proof.{AreSteps};
 ghost use Rattle.sc_rules.specs.Book.{numbered_clauses};
+ghost use Rattle.sc_rules.specs.Inference.{derived_of};
+ghost use Rattle.sc_rules.specs.WorkList.{Item as AnItem, At, Again, Gives};
 ghost use Rattle.sc_rules.specs.declared.fate.Fate.TheVariants.{Empty};
 ghost use Rattle.sc_sites.specs.Sites.{site_of, IsConclusion};
-ghost use Rattle.sc_work.specs.Items.{IsSiteOf, IsWorked};
+ghost use Rattle.sc_work.specs.Items.{HasClause, IsSiteOf, IsWorked};
 
 use crate::parents::fetch;
-use sc_data::Numbered;
+use sc_data::{Line, Numbered, Step};
 use sc_keep::Book;
 use sc_rules::Fate;
 use sc_sites::{Site, conclude, named};
 use sc_steps::Made;
-use sc_term::Mem;
+use sc_term::{Mem, copy};
+use sqlite_items::Items;
 use std::alloc::Global;
+use std::collections::VecDeque;
 
 /// The conclusion of the given clause at the site, which is one over the clauses that were usable when the turn began,
 /// or None where there is none (`IsConclusion`).
@@ -31,6 +36,23 @@ fn conclusion(alloc: Global, book: &Book, given: &Numbered, site: &Site) -> Mem<
     Ok(made)
 }
 
+/// The clause of that number by its `input` line: what an item of the list that came back gives (`Gives`).
+fn returned(alloc: Global, book: &Book, n: u32) -> Mem<Made>
+    requires whole { book.now.whole ≡ true }
+    requires there { HasClause (numbered_clauses book.now.problem book.now.book) n }
+    ensures { IfOk result (λ made. (given : ANumbered) (usable : List ANumbered) → Gives book.now.problem book.now.book given usable (Again n) (derived_of made)) }
+{
+    book.keeps();
+    let clause = copy(alloc, book.clause(n))?;
+    let line = Line {
+        step: Step::Input(n),
+        clause: copy(alloc, &clause)?,
+    };
+    let mut lines = Items::new(alloc);
+    lines.push(line)?;
+    Ok(Made { clause, lines })
+}
+
 /// The number of the empty clause, if the fate is that it was found.
 fn found_by(fate: Fate) -> Option<u32>
     ensures { MatchOption result ((k : ℕ) → fate ≢ Empty k) (λ k. fate ≡ Empty k) }
@@ -41,11 +63,49 @@ fn found_by(fate: Fate) -> Option<u32>
     }
 }
 
-/// Works the site (`IsWorked`), and tells the number of the empty clause, if that is found. Each clause keeps its number,
+/// The numbers join the end of those that wait.
+fn join(waiting: &mut VecDeque<u32>, numbers: &[u32]) -> Mem<()>
+    ensures { OnOk result (waiting.new.items ≡ waiting.old.items ++ numbers.now) }
+{
+    for n in numbers {
+        waiting.push_back(*n)?;
+    }
+    Ok(())
+}
+
+/// Has the book process what an item gives, so that the item is worked (`IsWorked`): the numbers that come back join the
+/// end of those that wait, and the number of the empty clause is told, if that is found. Each clause keeps its number,
 /// and at most two are derived.
+fn process_made(
+    book: &mut Book,
+    waiting: &mut VecDeque<u32>,
+    made: Made,
+    turn: u32,
+) -> Mem<Option<u32>>
+    requires whole { book.old.whole ≡ true }
+    requires steps { AreSteps (numbered_clauses book.old.problem book.old.book) made.lines }
+    requires few { length book.old.problem.inputs + length book.old.book.derived + 2 < 2 ^ 32 }
+    requires there { All (HasClause (numbered_clauses book.old.problem book.old.book)) waiting.old.items }
+    ensures worked { IfOk result (λ found. (given : ANumbered) (usable : List ANumbered) (item : AnItem) → Gives book.old.problem book.old.book given usable item (derived_of made)
+        → IsWorked book.old.problem turn given usable book.old.book waiting.old.items item book.new.book waiting.new.items found) }
+    ensures grows { OnOk result ((n : ℕ) (c : AClause) → numbered (numbered_clauses book.old.problem book.old.book) n ≡ Some c
+        → numbered (numbered_clauses book.new.problem book.new.book) n ≡ Some c) }
+    ensures there { OnOk result (All (HasClause (numbered_clauses book.new.problem book.new.book)) waiting.new.items) }
+    ensures few { OnOk result (length book.new.book.derived ≤ length book.old.book.derived + 2) }
+    ensures problem { book.new.problem ≡ book.old.problem }
+    ensures whole { OnOk result (book.new.whole ≡ true) }
+{
+    book.keeps();
+    let out = book.process(made, turn)?;
+    join(waiting, out.again.as_slice())?;
+    Ok(found_by(out.fate))
+}
+
+/// Works the site of the given clause (`IsWorked`): what it concludes, if anything, is processed.
 pub fn work_site(
     alloc: Global,
     book: &mut Book,
+    waiting: &mut VecDeque<u32>,
     given: &Numbered,
     site: &Site,
     turn: u32,
@@ -53,20 +113,45 @@ pub fn work_site(
     requires whole { book.old.whole ≡ true }
     requires site { (usable : List ANumbered) × IsSiteOf (numbered_clauses book.old.problem book.old.book) given.now usable (site_of site.now) }
     requires few { length book.old.problem.inputs + length book.old.book.derived + 2 < 2 ^ 32 }
+    requires there { All (HasClause (numbered_clauses book.old.problem book.old.book)) waiting.old.items }
     ensures worked { IfOk result (λ found. (usable : List ANumbered) → IsSiteOf (numbered_clauses book.old.problem book.old.book) given.now usable (site_of site.now)
-        → IsWorked book.old.problem turn given.now usable book.old.book (site_of site.now) book.new.book found) }
+        → IsWorked book.old.problem turn given.now usable book.old.book waiting.old.items (At (site_of site.now)) book.new.book waiting.new.items found) }
     ensures grows { OnOk result ((n : ℕ) (c : AClause) → numbered (numbered_clauses book.old.problem book.old.book) n ≡ Some c
         → numbered (numbered_clauses book.new.problem book.new.book) n ≡ Some c) }
+    ensures there { OnOk result (All (HasClause (numbered_clauses book.new.problem book.new.book)) waiting.new.items) }
     ensures few { OnOk result (length book.new.book.derived ≤ length book.old.book.derived + 2) }
     ensures problem { book.new.problem ≡ book.old.problem }
     ensures whole { OnOk result (book.new.whole ≡ true) }
 {
-    book.keeps();
     match conclusion(alloc, book, given, site)? {
         Some(made) => {
-            let out = book.process(made, turn)?;
-            Ok(found_by(out.fate))
+            let found = process_made(book, waiting, made, turn)?;
+            Ok(found)
         }
         None => Ok(None),
     }
+}
+
+/// Works the clause of that number, which came back (`IsWorked`): it is processed by its `input` line.
+pub fn work_again(
+    alloc: Global,
+    book: &mut Book,
+    waiting: &mut VecDeque<u32>,
+    n: u32,
+    turn: u32,
+) -> Mem<Option<u32>>
+    requires whole { book.old.whole ≡ true }
+    requires clause { HasClause (numbered_clauses book.old.problem book.old.book) n }
+    requires few { length book.old.problem.inputs + length book.old.book.derived + 2 < 2 ^ 32 }
+    requires there { All (HasClause (numbered_clauses book.old.problem book.old.book)) waiting.old.items }
+    ensures worked { IfOk result (λ found. (given : ANumbered) (usable : List ANumbered)
+        → IsWorked book.old.problem turn given usable book.old.book waiting.old.items (Again n) book.new.book waiting.new.items found) }
+    ensures there { OnOk result (All (HasClause (numbered_clauses book.new.problem book.new.book)) waiting.new.items) }
+    ensures few { OnOk result (length book.new.book.derived ≤ length book.old.book.derived + 2) }
+    ensures problem { book.new.problem ≡ book.old.problem }
+    ensures whole { OnOk result (book.new.whole ≡ true) }
+{
+    let made = returned(alloc, book, n)?;
+    let found = process_made(book, waiting, made, turn)?;
+    Ok(found)
 }

@@ -1,23 +1,60 @@
 //! The work list of a turn.
 
-ghost use Rattle.std.specs.Prelude.{◌≡◌, ◌+◌, ◌<◌, ◌^◌, true, IfOk, OnOk, Contains, length, map};
+ghost use Rattle.std.specs.Prelude.{◌≡◌, ◌+◌, ◌*◌, ◌<◌, ◌≤◌, ◌^◌, List, true, All, IfOk, OnOk, Contains, length, map};
+ghost use Rattle.sc_data.specs.declared.Numbered.{Numbered as ANumbered};
+ghost use Rattle.sc_rules.specs.Book.{numbered_clauses};
 ghost use Rattle.sc_rules.specs.Sites.{AreSites};
-ghost use Rattle.sc_rules.specs.WorkList.{At, Works};
+ghost use Rattle.sc_rules.specs.WorkList.{At, Again, Works};
 ghost use Rattle.sc_sites.specs.Sites.{site_of};
 ghost use Rattle.sc_work.specs.Finish.{finish_of};
+ghost use Rattle.sc_work.specs.Items.{HasClause};
 
 use crate::finish::Finish;
-use crate::item::work_site;
+use crate::item::{work_again, work_site};
 use sc_data::Numbered;
 use sc_keep::Book;
 use sc_sites::Site;
 use sc_term::Mem;
 use sqlite_items::Items;
 use std::alloc::Global;
+use std::collections::VecDeque;
 
-/// Works the sites of the given clause, which stands in usable, in order, at most 100,000 of them (`Works`): the
-/// conclusion of each is processed, and an empty clause ends it. The sites are the first 100,001, so that one too many
-/// shows. After want of memory no more is known of the book than that it has the same problem.
+/// Works the clauses of the numbers that wait, at most `left` of them (`Works`), which are the end of the work list:
+/// what comes back meanwhile waits behind them.
+fn work_waiting(
+    alloc: Global,
+    book: &mut Book,
+    waiting: VecDeque<u32>,
+    turn: u32,
+    left: u32,
+) -> Mem<Finish>
+    requires whole { book.old.whole ≡ true }
+    requires there { All (HasClause (numbered_clauses book.old.problem book.old.book)) waiting.items }
+    requires few { length book.old.problem.inputs + length book.old.book.derived + 2 * left + 2 < 2 ^ 32 }
+    ensures works { IfOk result (λ finish. (given : ANumbered) (usable : List ANumbered)
+        → Works book.old.problem turn given usable left book.old.book (map Again waiting.items) book.new.book (finish_of finish)) }
+    ensures problem { book.new.problem ≡ book.old.problem }
+    ensures whole { OnOk result (book.new.whole ≡ true) }
+{
+    let mut waiting = waiting;
+    let mut left = left;
+    while let Some(n) = waiting.pop_front() {
+        if left == 0 {
+            return Ok(Finish::TooMany);
+        }
+        match work_again(alloc, book, &mut waiting, n, turn)? {
+            Some(k) => return Ok(Finish::Found(k)),
+            None => {}
+        }
+        left -= 1;
+    }
+    Ok(Finish::Done)
+}
+
+/// Works the sites of the given clause, which stands in usable, in order, and then the clauses that come back, in the
+/// order in which they do, at most 100,000 items in all (`Works`): what each gives is processed, and an empty clause
+/// ends it. The sites are the first 100,001, so that one too many shows. After want of memory no more is known of the
+/// book than that it has the same problem.
 pub fn work(
     alloc: Global,
     book: &mut Book,
@@ -34,16 +71,18 @@ pub fn work(
     ensures whole { OnOk result (book.new.whole ≡ true) }
 {
     book.keeps();
+    let mut waiting = VecDeque::new(alloc);
     let mut left: u32 = 100_000;
     for site in sites.as_slice() {
         if left == 0 {
             return Ok(Finish::TooMany);
         }
-        match work_site(alloc, book, given, site, turn)? {
+        match work_site(alloc, book, &mut waiting, given, site, turn)? {
             Some(k) => return Ok(Finish::Found(k)),
             None => {}
         }
         left -= 1;
     }
-    Ok(Finish::Done)
+    let finish = work_waiting(alloc, book, waiting, turn, left)?;
+    Ok(finish)
 }

@@ -3,7 +3,6 @@
 ghost use Rattle.std.specs.Prelude.{◌≡◌, [], ◌∷◌, Some, true, IfOk};
 ghost use Rattle.sc_rules.specs.Selection as selection;
 ghost use Rattle.sc_rules.specs.Run.{looks_of};
-ghost use Rattle.sc_keep.specs.State.{NeedsNoEquality};
 ghost use Rattle.sc_run_written.specs.RunValue.{run_value};
 ghost use Rattle.sc_run_written.specs.declared.run.FinderEnd.TheVariants as ends;
 ghost use Rattle.sc_world.specs.Recorded.{no_version, IsRecord, TellsEnd};
@@ -134,9 +133,8 @@ fn finish(alloc: Global, problem: &Problem, prover: &mut Prover) -> Mem<Ended>
 }
 
 /// The run of the problem without candidates for a model, with the opening version as its guide, as it is written
-/// (`IsRecord`). The problem has to ask for no step on equality.
+/// (`IsRecord`).
 pub fn prove_alone(alloc: Global, problem: &Problem) -> Mem<Ended>
-    requires { NeedsNoEquality problem.now }
     ensures { IfOk result (λ ended. IsRecord problem.now (run_value ended.run)) }
 {
     let mut prover = start(alloc, problem)?;

@@ -1,7 +1,6 @@
 //! A run from its start to its end.
 
 ghost use Rattle.std.specs.Prelude.{◌≡◌, Some, true, IfOk, OnOk};
-ghost use Rattle.sc_keep.specs.State.{NeedsNoEquality};
 ghost use Rattle.sc_world.specs.Recorded.{no_version};
 ghost use Rattle.sc_world.specs.Underway.{IsUnderway};
 
@@ -13,7 +12,6 @@ use std::alloc::Global;
 
 /// The prover after the start of the problem's run, with the list of one finder, which has no version.
 pub fn start(alloc: Global, problem: &Problem) -> Mem<Prover>
-    requires { NeedsNoEquality problem.now }
     ensures whole { IfOk result (λ prover. prover.whole ≡ true) }
     ensures seen { IfOk result (λ prover. prover.seen ≡ no_version) }
     ensures problem { IfOk result (λ prover. prover.problem ≡ problem.now) }

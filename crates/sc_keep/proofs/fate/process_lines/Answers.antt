@@ -1,44 +1,45 @@
-use Rattle.std.proofs.Common.{◌∙◌, sym, ap, subst, refl, List, [], ◌<◌, ◌+◌, ◌^◌, length, false}
-use Rattle.std.specs.Prelude.{IsSomeAnd}
-use Rattle.sc_data.specs.Clause.{IsWithinLimits}
-use Rattle.sc_data.specs.declared.Line.{Line}
+use Rattle.std.proofs.Common.{sym, subst}
 use Rattle.sc_reading.specs.declared.settings.Flags.{Flags}
-use Rattle.sc_steps.specs.Derivation.{last_clause}
+use Rattle.sc_reading.specs.declared.settings.Params.{Params}
 use Rattle.sc_rules.specs.Book.{live}
+use Rattle.sc_rules.specs.Simplification.{Simplifies}
 use Rattle.sc_keep.specs.Lists.{book_of}
 use Rattle.sc_keep.proofs.CanonicalForm.{ends_with_canonical}
-use Rattle.sc_keep.proofs.SimplifyFound.{some_line}
-use Rattle.sc_keep.proofs.WithinLaws.{simplified_within}
+use Rattle.sc_keep.proofs.StaysReady.{stay_ready}
+use Rattle.sc_keep.proofs.StaysWithin.{stay_within}
 use Rattle.sc_keep.proofs.fate.process_lines.Goals as goal
-
-pub conclusion-requires : goal.conclusion-requires
-conclusion-requires c =
-    let simplified = c.in_ok-simplify_lines.ensures (record c.args.flags { dynamic_demod = false; unit_deletion = false }) 0 [] refl refl in
-    subst (λ (ls : List Line). 0 < length ls) (sym c.as_slice-2.ensures) (ends_with_canonical simplified.merged c.simplify_lines.new.lines simplified.canonical_last).0
 
 pub meet_fate-requires-clause-fit : goal.meet_fate-requires-clause-fit
 meet_fate-requires-clause-fit c =
-    let flags = record c.args.flags { dynamic_demod = false; unit_deletion = false } in
-    let simplified = c.in_ok-simplify_lines.ensures flags 0 [] refl refl in
-    let last = ap last_clause (sym c.as_slice-2.ensures) ∙ c.in_ok-n.ensures.clause in
+    let made = c.in_ok-made.made in
+    let simplified = c.in_ok-made.ensures in
     record {
-      canonical = (ends_with_canonical simplified.merged c.simplify_lines.new.lines simplified.canonical_last).1 c.in_ok-n.n.clause last;
-      within = simplified_within flags 0 [] c.args.lines c.simplify_lines.new.lines refl refl simplified c.requires.within c.in_ok-n.n.clause last;
+      canonical = (ends_with_canonical simplified.merged made.lines simplified.canonical_last).1 made.clause made.ends;
+      within = record { light = made.light; shallow = made.shallow };
     }
 
-pub has_room-requires : goal.has_room-requires
-has_room-requires c = subst (λ (ls : List Line). 0 < length ls) (sym c.as_slice.ensures) (some_line c.args.lines (λ c. IsWithinLimits c) c.requires.within)
+pub returns-clause-processes : goal.returns-clause-processes
+returns-clause-processes c problem number same_flags same_params =
+    let made = c.in_ok-made.made in
+    let old = book_of c.args.lists.now in record {
+      simplified = made.lines;
+      simplifies = subst (λ (fs : Flags). Simplifies fs problem.params.demod_limit old.demods (live old) c.args.made.lines made.lines) (sym same_flags)
+          (subst (λ (ps : Params). Simplifies c.args.flags ps.demod_limit old.demods (live old) c.args.made.lines made.lines) (sym same_params) c.in_ok-made.ensures);
+      clause = made.clause;
+      clause_last = made.ends;
+      fated = c.in_ok-out.ensures problem number same_flags same_params;
+    }
 
-pub simplify_lines-requires-clause-short : goal.simplify_lines-requires-clause-short
-simplify_lines-requires-clause-short c =
-    subst (λ (ls : List Line). IsSomeAnd (last_clause ls) (λ c. length ls + length c.literals < 2 ^ 32)) c.as_slice.ensures (c.has_room.ensures.0 c.if-not-has_room.false)
+pub returns-clause-ready : goal.returns-clause-ready
+returns-clause-ready c problem number same_flags same_params =
+    let made = c.in_ok-made.made in
+    let simplified = c.in_ok-made.ensures in
+    stay_ready problem c.args.lists.now c.meet_fate.new.lists c.args.number made.clause made.lines c.args.turn c.in_ok-out.out number
+    ((ends_with_canonical simplified.merged made.lines simplified.canonical_last).1 made.clause made.ends) (record { light = made.light; shallow = made.shallow })
+    (c.in_ok-out.ensures problem number same_flags same_params) c.requires.ready
 
-pub returns : goal.returns
-returns c problem number same_flags same_params no_demod no_deletion = record {
-  simplified = c.simplify_lines.new.lines;
-  simplifies = c.in_ok-simplify_lines.ensures problem.flags problem.params.demod_limit (live (book_of c.args.lists.now))
-      (ap (λ (fs : Flags). fs.dynamic_demod) same_flags ∙ no_demod) (ap (λ (fs : Flags). fs.unit_deletion) same_flags ∙ no_deletion);
-  clause = c.in_ok-n.n.clause;
-  clause_last = ap last_clause (sym c.as_slice-2.ensures) ∙ c.in_ok-n.ensures.clause;
-  fated = c.in_ok-out.ensures problem (c.in_ok-n.ensures.number ∙ number) same_flags same_params no_demod;
-}
+pub returns-clause-within : goal.returns-clause-within
+returns-clause-within c problem number same_flags same_params sound h =
+    let made = c.in_ok-made.made in
+    stay_within problem (book_of c.args.lists.now) (book_of c.meet_fate.new.lists) made.clause made.lines c.args.turn c.in_ok-out.out sound (record { light = made.light; shallow = made.shallow }) h
+    (c.in_ok-out.ensures problem number same_flags same_params)

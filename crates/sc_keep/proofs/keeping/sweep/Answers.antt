@@ -1,14 +1,14 @@
 use Rattle.sc_keep.specs.Lists.{book_of}
-use Rattle.sc_keep.proofs.KeepLaws.{nothing_swept, others_swept}
+use Rattle.sc_keep.proofs.KeepLaws.{both_sweep}
+use Rattle.sc_keep.proofs.StaysReady.{swept_distinct}
 use Rattle.sc_keep.proofs.keeping.sweep.Goals as goal
 
-pub returns-then-not-back_sub : goal.returns-then-not-back_sub
-returns-then-not-back_sub c problem asked no_demod =
-    nothing_swept problem (book_of c.args.lists.now) c.args.n.now c.args.back_sub asked no_demod c.fate_alone.result c.if-not-back_sub.true c.fate_alone.ensures
+pub demodulate-requires-clause-distinct : goal.demodulate-requires-clause-distinct
+demodulate-requires-clause-distinct c =
+    let told = c.in_ok-subsumed.ensures in
+    swept_distinct c.args.lists.now c.delete_subsumed.new.lists told.others told.deleted c.requires.distinct
 
 pub returns : goal.returns
-returns c problem asked no_demod =
-    let found = c.in_ok-gone.ensures in
-    others_swept problem (book_of c.args.lists.now) c.args.n.now c.args.back_sub asked no_demod found.0 c.in_ok-gone.gone.items found.1 found.2
-    c.leave_out.new.ps c.leave_out-2.new.ps c.as_slice.result.now c.as_slice-2.result.now c.from_vec.result c.new.result
-    c.if-not-back_sub.false c.as_slice.ensures.value c.leave_out.ensures c.as_slice-2.ensures.value c.leave_out-2.ensures c.from_vec.ensures c.new.ensures
+returns c problem same =
+    both_sweep problem c.args.flags same (book_of c.args.lists.now) (book_of c.delete_subsumed.new.lists) (book_of c.demodulate.new.lists) c.args.n.now c.in_ok-subsumed.subsumed.items
+    c.in_ok-rewritten.rewritten.items c.in_ok-subsumed.ensures c.in_ok-rewritten.ensures c.in_ok-out.out c.in_ok-out.ensures

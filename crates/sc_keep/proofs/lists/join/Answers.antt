@@ -13,7 +13,7 @@ returns-clause-book c problem e =
       usable = lists.usable;
       sos = (c.in_ok-push-2.ensures.ok ∙ (λ j. lists.sos ++ record { number = e j; clause = c.in_ok-copy-2.ensures j } ∷ [])) i;
       passive = lists.passive;
-      demods = [];
+      demods = lists.demods;
       kept = (c.in_ok-push-3.ensures.ok ∙ (λ j. lists.kept ++ record { number = e j; turn = c.args.turn; weight = w j; clause = c.in_ok-copy-3.ensures j } ∷ [])) i;
     }
 

@@ -2,11 +2,18 @@ use Rattle.std.proofs.Common.{◌≡◌, ◌∙◌, sym, ap, subst, List, length
 use Rattle.sc_data.specs.declared.Clause.{Clause}
 use Rattle.sc_data.specs.declared.Numbered.{Numbered}
 use Rattle.sc_keep.specs.Start.{IsFirstEnding}
+use Rattle.sc_keep.proofs.DemodsLaws.{all_demodulators, all_rising}
 use Rattle.sc_keep.proofs.StartedLaws.{all_fit, has_input, starts}
 use Rattle.sc_keep.proofs.start.start_lists.Goals as goal
 
 pub first_ending-requires : goal.first_ending-requires
 first_ending-requires c = record { all_fit = all_fit c.args.inputs.now c.as_slice-2.result.now (c.as_slice-2.ensures ∙ c.in_ok-all.ensures) c.requires.fit }
+
+pub opened-requires-clause-rising : goal.opened-requires-clause-rising
+opened-requires-clause-rising c = all_rising c.args.inputs.now c.as_slice.result.now (c.as_slice.ensures ∙ c.in_ok-all.ensures)
+
+pub opened-requires-clause-demods : goal.opened-requires-clause-demods
+opened-requires-clause-demods c = all_demodulators c.args.homes.now c.args.inputs.now c.as_slice.result.now (c.as_slice.ensures ∙ c.in_ok-all.ensures) c.requires.demodulators
 
 pub returns : goal.returns
 returns c problem is homes_are =

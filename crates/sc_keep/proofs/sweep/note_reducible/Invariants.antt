@@ -1,0 +1,8 @@
+use Rattle.std.proofs.Common.{◌≡◌, ◌++◌, List, take}
+use Rattle.sc_data.specs.declared.Numbered.{Numbered}
+use Rattle.sc_rules.specs.Order.{IsFilter}
+use Rattle.sc_keep.specs.Sweep.{IsOtherReducible, numbers}
+use Rattle.sc_keep.proofs.sweep.note_reducible.Given as goal
+
+abbrev pub invariant-loop-p : goal.invariant-loop-p
+invariant-loop-p l = (picked : List Numbered) × IsFilter (IsOtherReducible l.n) (take l.p-index l.ps) picked × (l.gone.items ≡ l.initial.gone.items ++ numbers picked)

@@ -1,0 +1,58 @@
+-- The answer to bytes of whose clauses a model is sought.
+use Rattle.std.specs.Prelude.{◌≡◌, ◌<◌, ◌≤◌, ℕ, List, Option, Some, None, Ok, Err, min}
+use Rattle.sc_reading.specs.Problem.{Stated}
+use Rattle.sc_interp.specs.Structure.{Structure}
+use Rattle.sc_run_written.specs.ModelText.{model_text}
+use Rattle.sc_run_written.specs.RunValue.{entries_of}
+use Rattle.sc_cells.specs.Cells.{cell_count}
+use Rattle.sc_cells.specs.Ground.{instance_count}
+use Rattle.sc_find.specs.Models.{IsPiece, IsFirstModel, HasNoModel, ExceedsBudget}
+use Rattle.sc_find.specs.Answers.{NoneBefore}
+use Rattle.sc_model_laws.specs.Meaning.{task_of, AreTrueIn, IsSatisfying}
+use Rattle.sc_top.specs.Runs.{spelled_problem}
+use Rattle.sc_top.specs.declared.answer.Modelled.{Modelled}
+use Rattle.sc_top.specs.declared.answer.Modelled.TheVariants as modelled
+use Rattle.sc_top.specs.declared.answer.Answer.{Answer}
+use Rattle.sc_top.specs.declared.answer.Answer.TheVariants.{ProofChecked, NotAProof, Ran, Model, InputRefused, WordsRefused, ReadFault, OutOfMemory}
+
+-- the tables are the first model of the problem's clauses, which are true in them, and the text is that of the tables
+pub record HasModelText (problem : Stated) (size : ℕ) (text : List ℕ) : Type 0 where
+  pub tables : Structure
+  pub first : IsFirstModel (task_of problem size) None tables
+  pub are_true : AreTrueIn tables problem.inputs
+  pub printed : text ≡ model_text problem.symbols size (entries_of tables)
+
+-- the problem's clauses have no model of the size: they aren't all true in any tables of it over the problem's symbols
+pub record HasNoModelOfSize (problem : Stated) (size told : ℕ) : Type 0 where
+  pub is_told : told ≡ size
+  pub no_model : HasNoModel (task_of problem size) None
+  pub none : (t : Structure) → ¬ IsSatisfying (task_of problem size) t
+
+-- what becomes of the search: the first model is found; there is none; the budget is spent in a piece, before which no
+-- piece has a model; or there are too many cells, or else too many instances
+abbrev pub IsModelled : Stated → ℕ → ℕ → Modelled → Type 0
+IsModelled problem size nodes (modelled.Found text) = HasModelText problem size text
+IsModelled problem size nodes (modelled.NoModel told) = HasNoModelOfSize problem size told
+IsModelled problem size nodes (modelled.Spent p) =
+    NoneBefore (task_of problem size) p × ((piece : Option ℕ) × IsPiece (task_of problem size) p piece × ExceedsBudget (task_of problem size) piece nodes)
+IsModelled problem size nodes (modelled.TooManyCells count) = (count ≡ cell_count problem.symbols size) × (4096 < cell_count problem.symbols size)
+IsModelled problem size nodes (modelled.TooManyInstances count) =
+    (cell_count problem.symbols size ≤ 4096) × (count ≡ min (instance_count problem.inputs size) 1000000000)
+    × (200000 < instance_count problem.inputs size)
+
+-- the bytes spell a problem of which this becomes
+pub record HasModelled (size nodes : ℕ) (m : Modelled) (bytes : List ℕ) : Type 0 where
+  pub problem : Stated
+  pub is_read : spelled_problem bytes ≡ Ok problem
+  pub modelled : IsModelled problem size nodes m
+
+-- an answer to the bytes, where a model of their clauses is sought: where the budget is spent another may be one too
+abbrev pub IsModelAnswer : ℕ → ℕ → List ℕ → Answer → Type 0
+IsModelAnswer size nodes bytes (ProofChecked n) = ⊥
+IsModelAnswer size nodes bytes (NotAProof k) = ⊥
+IsModelAnswer size nodes bytes (Ran o text) = ⊥
+IsModelAnswer size nodes bytes (Model m) = HasModelled size nodes m bytes
+IsModelAnswer size nodes bytes (InputRefused p) = spelled_problem bytes ≡ Err p
+IsModelAnswer size nodes bytes WordsRefused = ⊥
+IsModelAnswer size nodes bytes ReadFault = ⊥
+IsModelAnswer size nodes bytes OutOfMemory = ⊥

@@ -1,0 +1,77 @@
+//! The answer to a problem of whose clauses a model is sought.
+
+ghost use Rattle.std.specs.Prelude.{◌≡◌, ◌≢◌, ◌≤◌, ◌⊎◌, ℕ, List, Ok, IfOk, length};
+ghost use Rattle.sc_top.specs.declared.answer.Answer.TheVariants.{OutOfMemory};
+ghost use Rattle.sc_top.specs.Answers.{status_of};
+ghost use Rattle.sc_top.specs.Runs.{spelled_problem};
+ghost use Rattle.sc_model_laws.specs.Meaning.{task_of};
+ghost use Rattle.sc_top.specs.Models.{IsModelled, IsModelAnswer};
+
+use crate::answer::{Answer, Modelled};
+use sc_find::{FoundAll, Job, JobError, find_by_pieces};
+use sc_input::{InputError, Problem, read_problem};
+use sc_print_run::print_model;
+use sc_term::{Mem, OutOfMemory};
+use sqlite_items::Items;
+use std::alloc::Global;
+
+/// What becomes of the search over the pieces of the job, which is that of the problem's clauses.
+#[tactic(auto, using(crate::proofs::ModelAnswers::has_text, crate::proofs::ModelAnswers::has_none))]
+fn search(alloc: Global, problem: &Problem, job: &Job, size: u8, nodes: u64) -> Mem<Modelled>
+    requires { job.now ≡ task_of problem.now size }
+    ensures { IfOk result (IsModelled problem.now size nodes) }
+{
+    problem.keeps();
+    match find_by_pieces(alloc, job, nodes)? {
+        FoundAll::Model(tables) => {
+            let text = print_model(alloc, problem.sig(), &tables)?;
+            Ok(Modelled::Found {
+                text: Items::from_vec(text),
+            })
+        }
+        FoundAll::None => Ok(Modelled::NoModel { size }),
+        FoundAll::Spent { piece } => Ok(Modelled::Spent { piece }),
+    }
+}
+
+/// What becomes of the search for a model of the problem's clauses.
+fn modelled(alloc: Global, problem: &Problem, size: u8, nodes: u64) -> Mem<Modelled>
+    requires some { 1 ≤ size }
+    requires few { size ≤ 8 }
+    ensures { IfOk result (IsModelled problem.now size nodes) }
+{
+    match Job::new(alloc, problem.sig(), problem.inputs(), size) {
+        Ok(job) => search(alloc, problem, &job, size, nodes),
+        Err(JobError::Cells { count }) => Ok(Modelled::TooManyCells { count }),
+        Err(JobError::Instances { count }) => Ok(Modelled::TooManyInstances { count }),
+        Err(JobError::OutOfMemory) => Err(OutOfMemory),
+    }
+}
+
+/// The answer to a problem that was read.
+fn model_problem(alloc: Global, size: u8, nodes: u64, problem: &Problem) -> Answer
+    requires some { 1 ≤ size }
+    requires few { size ≤ 8 }
+    ensures decided { (bytes : List ℕ) → spelled_problem bytes ≡ Ok problem.now → IsModelAnswer size nodes bytes result ⊎ (result ≡ OutOfMemory) }
+    ensures words { status_of result ≢ 4 }
+{
+    match modelled(alloc, problem, size, nodes) {
+        Ok(modelled) => Answer::Model(modelled),
+        Err(_) => Answer::OutOfMemory,
+    }
+}
+
+/// The answer to the bytes, of whose clauses a model of that size is sought with that budget for each piece.
+pub fn model_bytes(alloc: Global, size: u8, nodes: u64, bytes: &[u8]) -> Answer
+    requires some { 1 ≤ size }
+    requires few { size ≤ 8 }
+    requires short { length bytes.now ≤ 4194304 }
+    ensures decided { IsModelAnswer size nodes bytes.now result ⊎ (result ≡ OutOfMemory) }
+    ensures words { status_of result ≢ 4 }
+{
+    match read_problem(alloc, bytes) {
+        Ok(problem) => model_problem(alloc, size, nodes, &problem),
+        Err(InputError::Refused(place)) => Answer::InputRefused(place),
+        Err(InputError::OutOfMemory) => Answer::OutOfMemory,
+    }
+}
