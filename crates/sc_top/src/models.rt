@@ -1,7 +1,7 @@
 //! The answer to a problem of whose clauses a model is sought.
 
 ghost use Rattle.std.specs.Prelude.{◌≡◌, ◌≢◌, ◌≤◌, ◌⊎◌, ℕ, List, Ok, IfOk, length};
-ghost use Rattle.sc_top.specs.declared.answer.Answer.TheVariants.{OutOfMemory};
+ghost use Rattle.sc_top.specs.declared.answer.Answer.TheVariants as answer;
 ghost use Rattle.sc_top.specs.Answers.{status_of};
 ghost use Rattle.sc_top.specs.Runs.{spelled_problem};
 ghost use Rattle.sc_model_laws.specs.Meaning.{task_of};
@@ -52,7 +52,7 @@ fn modelled(alloc: Global, problem: &Problem, size: u8, nodes: u64) -> Mem<Model
 fn model_problem(alloc: Global, size: u8, nodes: u64, problem: &Problem) -> Answer
     requires some { 1 ≤ size }
     requires few { size ≤ 8 }
-    ensures decided { (bytes : List ℕ) → spelled_problem bytes ≡ Ok problem.now → IsModelAnswer size nodes bytes result ⊎ (result ≡ OutOfMemory) }
+    ensures decided { (bytes : List ℕ) → spelled_problem bytes ≡ Ok problem.now → IsModelAnswer size nodes bytes result ⊎ (result ≡ answer.OutOfMemory) }
     ensures words { status_of result ≢ 4 }
 {
     match modelled(alloc, problem, size, nodes) {
@@ -66,7 +66,7 @@ pub fn model_bytes(alloc: Global, size: u8, nodes: u64, bytes: &[u8]) -> Answer
     requires some { 1 ≤ size }
     requires few { size ≤ 8 }
     requires short { length bytes.now ≤ 4194304 }
-    ensures decided { IsModelAnswer size nodes bytes.now result ⊎ (result ≡ OutOfMemory) }
+    ensures decided { IsModelAnswer size nodes bytes.now result ⊎ (result ≡ answer.OutOfMemory) }
     ensures words { status_of result ≢ 4 }
 {
     match read_problem(alloc, bytes) {
