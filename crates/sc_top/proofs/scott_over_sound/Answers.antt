@@ -1,0 +1,5 @@
+use Rattle.std.proofs.Common.{rules}
+use Rattle.sc_top.proofs.scott_over_sound.Goals as goal
+
+pub returns-clause-told : goal.returns-clause-told
+returns-clause-told c = λ command asked seven. c.scott.ensures.told command asked (search rules) (search rules) seven
