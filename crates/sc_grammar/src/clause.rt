@@ -8,16 +8,16 @@ ghost use Rattle.sc_scan.specs.Told.{Gives};
 
 use crate::literal::read_literal;
 use sc_reading::{Sign, Token, WrittenLiteral};
-use sc_scan::{Stop, next_is_sign, next_is_word, stop_at, the_sign};
+use sc_scan::{Rest, Stop, next_is_sign, next_is_word, stop_at, the_sign};
 use sqlite_items::Items;
 use std::alloc::Global;
 
 /// A clause as it is written, and the tokens behind it: no literal for `$F`, else one or more with `|` between them. It
 /// stops for want of memory, or at the first token that `clause` doesn't allow.
-pub fn read_clause(
+pub fn read_clause<'t, 'a>(
     alloc: Global,
-    tokens: &[Token],
-) -> Result<(Items<WrittenLiteral>, &[Token]), Stop>
+    tokens: &'t [Token<'a>],
+) -> Result<(Items<WrittenLiteral<'a>>, &'t [Token<'a>]), Stop>
     ensures { Gives (λ x. (x.0, x.1.now)) result (of.clause tokens.now) }
 {
     if next_is_word(b"$F".as_slice(), tokens) {
@@ -27,7 +27,10 @@ pub fn read_clause(
     }
 }
 
-fn without_first(alloc: Global, tokens: &[Token]) -> Result<(Items<WrittenLiteral>, &[Token]), Stop>
+fn without_first<'t, 'a>(
+    alloc: Global,
+    tokens: &'t [Token<'a>],
+) -> Result<(Items<WrittenLiteral<'a>>, &'t [Token<'a>]), Stop>
     ensures { Gives (λ x. (x.0, x.1.now)) result (of.without_first tokens.now) }
 {
     match tokens {
@@ -36,18 +39,23 @@ fn without_first(alloc: Global, tokens: &[Token]) -> Result<(Items<WrittenLitera
     }
 }
 
-fn literals(alloc: Global, tokens: &[Token]) -> Result<(Items<WrittenLiteral>, &[Token]), Stop>
+fn literals<'t, 'a>(
+    alloc: Global,
+    tokens: &'t [Token<'a>],
+) -> Result<(Items<WrittenLiteral<'a>>, &'t [Token<'a>]), Stop>
     ensures { Gives (λ x. (x.0, x.1.now)) result (spec.separated Bar of.literal (length tokens.now) tokens.now) }
 {
     let mut front = Items::new(alloc);
-    let mut rest = tokens;
+    let mut rest = Rest::new(tokens);
     for _ in 0..tokens.len() {
-        let (literal, after) = read_literal(alloc, rest)?;
+        let left = rest.tokens();
+        let (literal, after) = read_literal(alloc, left)?;
         front.push(literal)?;
         if !next_is_sign(Sign::Bar, after) {
             return Ok((front, after));
         }
-        rest = the_sign(Sign::Bar, after)?;
+        let next = the_sign(Sign::Bar, after)?;
+        rest = Rest::new(next);
     }
-    Err(stop_at(rest))
+    Err(stop_at(rest.tokens()))
 }

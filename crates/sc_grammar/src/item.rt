@@ -9,56 +9,59 @@ ghost use Rattle.sc_grammar.specs.Items.{item_of, items_of, clipped_item, clippe
 use crate::clause::read_clause;
 use crate::number::read_number;
 use crate::words::{ASSIGN, CLEAR, END_OF_LIST, PROOF, RUN, SET, Vocabulary, a_listed_name};
-use sc_reading::{Sign, Token, WrittenLiteral};
-use sc_scan::{Stop, is_word, next_is_word, stop_at, the_sign, the_word};
+use sc_reading::{Lexeme, Sign, Token, WrittenLiteral};
+use sc_scan::{Rest, Stop, is_word, next_is_word, stop_at, the_sign, the_word};
 use sqlite_items::Items;
-use std::alloc::{AllocError, Global};
+use std::alloc::Global;
 
 /// A word that names something, and the byte at which it begins.
 #[derive(Debug, Drop)]
-pub struct Name {
+pub struct Name<'a> {
     pub at: u64,
-    pub text: Items<u8>,
+    pub text: Lexeme<'a>,
 }
 
 /// An item of a problem: a flag that is set or cleared, a parameter and its value, or a list and its clauses as they
 /// are written.
 #[derive(Debug, Drop)]
-pub enum Item {
-    Setting(Name, bool),
-    Assignment(Name, i64),
-    Listing(Name, Items<Items<WrittenLiteral>>),
+pub enum Item<'a> {
+    Setting(Name<'a>, bool),
+    Assignment(Name<'a>, i64),
+    Listing(Name<'a>, Items<Items<WrittenLiteral<'a>>>),
 }
 
 /// `)` and `.`
-fn the_close(tokens: &[Token]) -> Result<&[Token], Stop>
+fn the_close<'t, 'a>(tokens: &'t [Token<'a>]) -> Result<&'t [Token<'a>], Stop>
     ensures { Gives (λ x. (tt, x.now)) result (of.the_close tokens.now) }
 {
     let rest = the_sign(Sign::Close, tokens)?;
     the_sign(Sign::Stop, rest)
 }
 
-fn name_at(alloc: Global, at: u64, text: &Items<u8>) -> Result<Name, AllocError>
-    ensures { IfOk result (λ name. name ≡ record { at = at; text = text.now }) }
+fn name_at<'a>(at: u64, text: &'a [u8]) -> Name<'a>
+    ensures { result ≡ record { at = at; text = text.now } }
 {
-    Ok(Name {
+    Name {
         at,
-        text: Items::from_slice(alloc, text.as_slice())?,
-    })
+        text: Lexeme::new(text),
+    }
 }
 
 /// What stands behind `set` or `clear`.
-fn setting(alloc: Global, positive: bool, tokens: &[Token]) -> Result<(Item, &[Token]), Stop>
+fn setting<'t, 'a>(
+    positive: bool,
+    tokens: &'t [Token<'a>],
+) -> Result<(Item<'a>, &'t [Token<'a>]), Stop>
     ensures { Gives (λ x. (item_of x.0, x.1.now)) result (clipped_item (of.setting positive tokens.now)) }
 {
     let rest = the_sign(Sign::Open, tokens)?;
     let (at, text, rest) = a_listed_name(Vocabulary::Flags, rest)?;
     let rest = the_close(rest)?;
-    Ok((Item::Setting(name_at(alloc, at, text)?, positive), rest))
+    Ok((Item::Setting(name_at(at, text), positive), rest))
 }
 
 /// What stands behind `assign`.
-fn assignment(alloc: Global, tokens: &[Token]) -> Result<(Item, &[Token]), Stop>
+fn assignment<'t, 'a>(tokens: &'t [Token<'a>]) -> Result<(Item<'a>, &'t [Token<'a>]), Stop>
     ensures { Gives (λ x. (item_of x.0, x.1.now)) result (clipped_item (of.assignment tokens.now)) }
 {
     let rest = the_sign(Sign::Open, tokens)?;
@@ -66,10 +69,13 @@ fn assignment(alloc: Global, tokens: &[Token]) -> Result<(Item, &[Token]), Stop>
     let rest = the_sign(Sign::Comma, rest)?;
     let (value, rest) = read_number(rest)?;
     let rest = the_close(rest)?;
-    Ok((Item::Assignment(name_at(alloc, at, text)?, value), rest))
+    Ok((Item::Assignment(name_at(at, text), value), rest))
 }
 
-fn ended_clause(alloc: Global, tokens: &[Token]) -> Result<(Items<WrittenLiteral>, &[Token]), Stop>
+fn ended_clause<'t, 'a>(
+    alloc: Global,
+    tokens: &'t [Token<'a>],
+) -> Result<(Items<WrittenLiteral<'a>>, &'t [Token<'a>]), Stop>
     ensures { Gives (λ x. (x.0, x.1.now)) result (of.ended_clause tokens.now) }
 {
     let (clause, rest) = read_clause(alloc, tokens)?;
@@ -84,31 +90,36 @@ fn at_end_of_list(tokens: &[Token]) -> bool
 }
 
 /// Clauses up to `end_of_list`.
-fn clauses(
+fn clauses<'t, 'a>(
     alloc: Global,
-    tokens: &[Token],
-) -> Result<(Items<Items<WrittenLiteral>>, &[Token]), Stop>
+    tokens: &'t [Token<'a>],
+) -> Result<(Items<Items<WrittenLiteral<'a>>>, &'t [Token<'a>]), Stop>
     ensures { Gives (λ x. (x.0, x.1.now)) result (spec.repeated (of.next_is_word (codes "end_of_list")) of.ended_clause (length tokens.now) tokens.now) }
 {
     let mut front = Items::new(alloc);
-    let mut rest = tokens;
+    let mut rest = Rest::new(tokens);
     for _ in 0..tokens.len() {
-        if at_end_of_list(rest) {
-            return Ok((front, rest));
+        let left = rest.tokens();
+        if at_end_of_list(left) {
+            return Ok((front, left));
         }
-        let (clause, after) = ended_clause(alloc, rest)?;
+        let (clause, after) = ended_clause(alloc, left)?;
         front.push(clause)?;
-        rest = after;
+        rest = Rest::new(after);
     }
-    if at_end_of_list(rest) {
-        Ok((front, rest))
+    let left = rest.tokens();
+    if at_end_of_list(left) {
+        Ok((front, left))
     } else {
-        Err(stop_at(rest))
+        Err(stop_at(left))
     }
 }
 
 /// What stands behind `list`.
-fn listing(alloc: Global, tokens: &[Token]) -> Result<(Item, &[Token]), Stop>
+fn listing<'t, 'a>(
+    alloc: Global,
+    tokens: &'t [Token<'a>],
+) -> Result<(Item<'a>, &'t [Token<'a>]), Stop>
     ensures { Gives (λ x. (item_of x.0, x.1.now)) result (clipped_item (of.listing tokens.now)) }
 {
     let rest = the_sign(Sign::Open, tokens)?;
@@ -117,34 +128,37 @@ fn listing(alloc: Global, tokens: &[Token]) -> Result<(Item, &[Token]), Stop>
     let (clauses, rest) = clauses(alloc, rest)?;
     let rest = the_word(END_OF_LIST.as_bytes(), rest)?;
     let rest = the_sign(Sign::Stop, rest)?;
-    Ok((Item::Listing(name_at(alloc, at, text)?, clauses), rest))
+    Ok((Item::Listing(name_at(at, text), clauses), rest))
 }
 
 /// What stands behind the word of an item.
-fn item_named<'a>(
+fn item_named<'t, 'a>(
     alloc: Global,
-    word: &[u8],
-    tokens: &'a [Token],
-) -> Result<(Item, &'a [Token]), Stop>
+    word: &'a [u8],
+    tokens: &'t [Token<'a>],
+) -> Result<(Item<'a>, &'t [Token<'a>]), Stop>
     ensures { Gives (λ x. (item_of x.0, x.1.now)) result (clipped_item (of.item_named word.now tokens.now)) }
 {
     if word == SET.as_bytes() {
-        setting(alloc, true, tokens)
+        setting(true, tokens)
     } else if word == CLEAR.as_bytes() {
-        setting(alloc, false, tokens)
+        setting(false, tokens)
     } else if word == ASSIGN.as_bytes() {
-        assignment(alloc, tokens)
+        assignment(tokens)
     } else {
         listing(alloc, tokens)
     }
 }
 
 /// An item, and the tokens behind it. A value from 10,000,000,000 on, of either sign, is answered as that number.
-pub fn read_item(alloc: Global, tokens: &[Token]) -> Result<(Item, &[Token]), Stop>
+pub fn read_item<'t, 'a>(
+    alloc: Global,
+    tokens: &'t [Token<'a>],
+) -> Result<(Item<'a>, &'t [Token<'a>]), Stop>
     ensures { Gives (λ x. (item_of x.0, x.1.now)) result (told_item tokens.now) }
 {
     let (_, word, rest) = a_listed_name(Vocabulary::Items, tokens)?;
-    item_named(alloc, word.as_slice(), rest)
+    item_named(alloc, word, rest)
 }
 
 /// Whether a problem ends here: at the end of the tokens, or at `proof` or `run` too where those may follow it.
@@ -157,33 +171,38 @@ fn ends(before_section: bool, tokens: &[Token]) -> bool
     }
 }
 
-fn items_until(
+fn items_until<'t, 'a>(
     alloc: Global,
     before_section: bool,
-    tokens: &[Token],
-) -> Result<(Items<Item>, &[Token]), Stop>
+    tokens: &'t [Token<'a>],
+) -> Result<(Items<Item<'a>>, &'t [Token<'a>]), Stop>
     ensures { Gives (λ x. (items_of x.0, x.1.now)) result (spec.repeated (ends_at before_section) told_item (length tokens.now) tokens.now) }
 {
     let mut front = Items::new(alloc);
-    let mut rest = tokens;
+    let mut rest = Rest::new(tokens);
     for _ in 0..tokens.len() {
-        if ends(before_section, rest) {
-            return Ok((front, rest));
+        let left = rest.tokens();
+        if ends(before_section, left) {
+            return Ok((front, left));
         }
-        let (item, after) = read_item(alloc, rest)?;
+        let (item, after) = read_item(alloc, left)?;
         front.push(item)?;
-        rest = after;
+        rest = Rest::new(after);
     }
-    if ends(before_section, rest) {
-        Ok((front, rest))
+    let left = rest.tokens();
+    if ends(before_section, left) {
+        Ok((front, left))
     } else {
-        Err(stop_at(rest))
+        Err(stop_at(left))
     }
 }
 
 /// The items of a problem that ends with the tokens, and no tokens. A value from 10,000,000,000 on, of either sign, is
 /// answered as that number. It stops for want of memory, or at the first token that `problem` doesn't allow.
-pub fn read_problem(alloc: Global, tokens: &[Token]) -> Result<(Items<Item>, &[Token]), Stop>
+pub fn read_problem<'t, 'a>(
+    alloc: Global,
+    tokens: &'t [Token<'a>],
+) -> Result<(Items<Item<'a>>, &'t [Token<'a>]), Stop>
     ensures { Gives (λ x. (items_of x.0, x.1.now)) result (clipped_items (of.problem tokens.now)) }
 {
     items_until(alloc, false, tokens)
@@ -192,7 +211,10 @@ pub fn read_problem(alloc: Global, tokens: &[Token]) -> Result<(Items<Item>, &[T
 /// The items of a problem that ends with the tokens or before a word `proof` or `run` in an item's place, and the
 /// tokens from there. A value from 10,000,000,000 on, of either sign, is answered as that number. It stops for want of
 /// memory, or at the first token that `items` doesn't allow.
-pub fn read_items(alloc: Global, tokens: &[Token]) -> Result<(Items<Item>, &[Token]), Stop>
+pub fn read_items<'t, 'a>(
+    alloc: Global,
+    tokens: &'t [Token<'a>],
+) -> Result<(Items<Item<'a>>, &'t [Token<'a>]), Stop>
     ensures { Gives (λ x. (items_of x.0, x.1.now)) result (clipped_items (of.items tokens.now)) }
 {
     items_until(alloc, true, tokens)

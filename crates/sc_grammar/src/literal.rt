@@ -7,13 +7,16 @@ ghost use Rattle.sc_scan.specs.Told.{Gives};
 ghost use Rattle.sc_grammar.specs.Behind.{negative_literal};
 
 use crate::side::read_side;
-use sc_reading::{Occurrence, Sign, Token, WrittenLiteral};
+use sc_reading::{Lexeme, Occurrence, Sign, Token, WrittenLiteral};
 use sc_scan::{Stop, next_is_sign, stop_at, the_sign};
 use sqlite_items::Items;
 use std::alloc::Global;
 
 /// A literal: a side, an equation, an equation in parentheses, `-` and a side, or `-` and an equation in parentheses.
-pub fn read_literal(alloc: Global, tokens: &[Token]) -> Result<(WrittenLiteral, &[Token]), Stop>
+pub fn read_literal<'t, 'a>(
+    alloc: Global,
+    tokens: &'t [Token<'a>],
+) -> Result<(WrittenLiteral<'a>, &'t [Token<'a>]), Stop>
     ensures { Gives (λ x. (x.0, x.1.now)) result (of.literal tokens.now) }
 {
     if next_is_sign(Sign::Minus, tokens) {
@@ -23,7 +26,10 @@ pub fn read_literal(alloc: Global, tokens: &[Token]) -> Result<(WrittenLiteral, 
     }
 }
 
-fn negative_literal(alloc: Global, tokens: &[Token]) -> Result<(WrittenLiteral, &[Token]), Stop>
+fn negative_literal<'t, 'a>(
+    alloc: Global,
+    tokens: &'t [Token<'a>],
+) -> Result<(WrittenLiteral<'a>, &'t [Token<'a>]), Stop>
     ensures { Gives (λ x. (x.0, x.1.now)) result (negative_literal tokens.now) }
 {
     let rest = the_sign(Sign::Minus, tokens)?;
@@ -31,8 +37,8 @@ fn negative_literal(alloc: Global, tokens: &[Token]) -> Result<(WrittenLiteral, 
     Ok((negated(literal), rest))
 }
 
-fn negated(literal: WrittenLiteral) -> WrittenLiteral
-    ensures { result ≡ of.negated literal }
+fn negated<'a>(literal: WrittenLiteral<'a>) -> WrittenLiteral<'a>
+    ensures { result ≡ of.negated literal.entry }
 {
     let WrittenLiteral {
         positive,
@@ -47,7 +53,10 @@ fn negated(literal: WrittenLiteral) -> WrittenLiteral
 }
 
 /// A side, an equation, or an equation in parentheses.
-fn unsigned_literal(alloc: Global, tokens: &[Token]) -> Result<(WrittenLiteral, &[Token]), Stop>
+fn unsigned_literal<'t, 'a>(
+    alloc: Global,
+    tokens: &'t [Token<'a>],
+) -> Result<(WrittenLiteral<'a>, &'t [Token<'a>]), Stop>
     ensures { Gives (λ x. (x.0, x.1.now)) result (of.bracketed_or of.plain_literal tokens.now) }
 {
     if next_is_sign(Sign::Open, tokens) {
@@ -58,7 +67,10 @@ fn unsigned_literal(alloc: Global, tokens: &[Token]) -> Result<(WrittenLiteral, 
 }
 
 /// What stands behind `-`: a side, or an equation in parentheses.
-fn below_minus(alloc: Global, tokens: &[Token]) -> Result<(WrittenLiteral, &[Token]), Stop>
+fn below_minus<'t, 'a>(
+    alloc: Global,
+    tokens: &'t [Token<'a>],
+) -> Result<(WrittenLiteral<'a>, &'t [Token<'a>]), Stop>
     ensures { Gives (λ x. (x.0, x.1.now)) result (of.bracketed_or of.negative_atom tokens.now) }
 {
     if next_is_sign(Sign::Open, tokens) {
@@ -68,14 +80,20 @@ fn below_minus(alloc: Global, tokens: &[Token]) -> Result<(WrittenLiteral, &[Tok
     }
 }
 
-fn negative_atom(alloc: Global, tokens: &[Token]) -> Result<(WrittenLiteral, &[Token]), Stop>
+fn negative_atom<'t, 'a>(
+    alloc: Global,
+    tokens: &'t [Token<'a>],
+) -> Result<(WrittenLiteral<'a>, &'t [Token<'a>]), Stop>
     ensures { Gives (λ x. (x.0, x.1.now)) result (of.negative_atom tokens.now) }
 {
     let (side, rest) = one_side(alloc, tokens)?;
     atom_of(side, rest)
 }
 
-fn plain_literal(alloc: Global, tokens: &[Token]) -> Result<(WrittenLiteral, &[Token]), Stop>
+fn plain_literal<'t, 'a>(
+    alloc: Global,
+    tokens: &'t [Token<'a>],
+) -> Result<(WrittenLiteral<'a>, &'t [Token<'a>]), Stop>
     ensures { Gives (λ x. (x.0, x.1.now)) result (of.plain_literal tokens.now) }
 {
     let (side, rest) = one_side(alloc, tokens)?;
@@ -86,7 +104,10 @@ fn plain_literal(alloc: Global, tokens: &[Token]) -> Result<(WrittenLiteral, &[T
     }
 }
 
-fn bracketed_equation(alloc: Global, tokens: &[Token]) -> Result<(WrittenLiteral, &[Token]), Stop>
+fn bracketed_equation<'t, 'a>(
+    alloc: Global,
+    tokens: &'t [Token<'a>],
+) -> Result<(WrittenLiteral<'a>, &'t [Token<'a>]), Stop>
     ensures { Gives (λ x. (x.0, x.1.now)) result (of.bracketed of.equation tokens.now) }
 {
     let rest = the_sign(Sign::Open, tokens)?;
@@ -95,14 +116,20 @@ fn bracketed_equation(alloc: Global, tokens: &[Token]) -> Result<(WrittenLiteral
     Ok((equation, rest))
 }
 
-fn read_equation(alloc: Global, tokens: &[Token]) -> Result<(WrittenLiteral, &[Token]), Stop>
+fn read_equation<'t, 'a>(
+    alloc: Global,
+    tokens: &'t [Token<'a>],
+) -> Result<(WrittenLiteral<'a>, &'t [Token<'a>]), Stop>
     ensures { Gives (λ x. (x.0, x.1.now)) result (of.equation tokens.now) }
 {
     let (left, rest) = one_side(alloc, tokens)?;
     right_of(alloc, left, rest)
 }
 
-fn one_side(alloc: Global, tokens: &[Token]) -> Result<(Items<Occurrence>, &[Token]), Stop>
+fn one_side<'t, 'a>(
+    alloc: Global,
+    tokens: &'t [Token<'a>],
+) -> Result<(Items<Occurrence<'a>>, &'t [Token<'a>]), Stop>
     ensures { Gives (λ x. (x.0, x.1.now)) result (of.side tokens.now) }
 {
     let mut names = Items::new(alloc);
@@ -114,39 +141,42 @@ fn next_is_equality(tokens: &[Token]) -> bool
     ensures { result ≡ spec.next_is of.is_equality tokens.now }
 {
     match tokens {
-        [Token::Punctuation(_, Sign::Equal | Sign::Unequal), ..] => true,
-        _ => false,
+        [] => false,
+        [token, ..] => matches!(token, Token::Punctuation(_, Sign::Equal | Sign::Unequal)),
     }
 }
 
 /// What stands behind the left side of an equation.
-fn right_of(
+fn right_of<'t, 'a>(
     alloc: Global,
-    left: Items<Occurrence>,
-    tokens: &[Token],
-) -> Result<(WrittenLiteral, &[Token]), Stop>
-    ensures { Gives (λ x. (x.0, x.1.now)) result (of.right_of left tokens.now) }
+    left: Items<Occurrence<'a>>,
+    tokens: &'t [Token<'a>],
+) -> Result<(WrittenLiteral<'a>, &'t [Token<'a>]), Stop>
+    ensures { Gives (λ x. (x.0, x.1.now)) result (of.right_of left.entry tokens.now) }
 {
     match tokens {
-        [Token::Punctuation(at, Sign::Equal), rest @ ..] => equate(alloc, true, *at, left, rest),
-        [Token::Punctuation(at, Sign::Unequal), rest @ ..] => equate(alloc, false, *at, left, rest),
-        _ => Err(stop_at(tokens)),
+        [] => Err(stop_at(tokens)),
+        [token, rest @ ..] => match token {
+            Token::Punctuation(at, Sign::Equal) => equate(alloc, true, *at, left, rest),
+            Token::Punctuation(at, Sign::Unequal) => equate(alloc, false, *at, left, rest),
+            _ => Err(stop_at(tokens)),
+        },
     }
 }
 
 /// An equation of this left side, whose sign stood at this place, and the right side that is read.
-fn equate(
+fn equate<'t, 'a>(
     alloc: Global,
     positive: bool,
     at: u64,
-    left: Items<Occurrence>,
-    tokens: &[Token],
-) -> Result<(WrittenLiteral, &[Token]), Stop>
-    ensures { Gives (λ x. (x.0, x.1.now)) result (spec.◌>>=◌ (of.side tokens.now) (λ right. Ok (of.equation_of positive at left right.0, right.1))) }
+    left: Items<Occurrence<'a>>,
+    tokens: &'t [Token<'a>],
+) -> Result<(WrittenLiteral<'a>, &'t [Token<'a>]), Stop>
+    ensures { Gives (λ x. (x.0, x.1.now)) result (spec.◌>>=◌ (of.side tokens.now) (λ right. Ok (of.equation_of positive at left.entry right.0, right.1))) }
 {
     let mut arguments = left;
     let rest = read_side(alloc, tokens, &mut arguments)?;
-    let name = Items::from_slice(alloc, b"=".as_slice())?;
+    let name = Lexeme::new(b"=".as_slice());
     let predicate = Occurrence { at, name, arity: 2 };
     Ok((
         WrittenLiteral {
@@ -159,8 +189,11 @@ fn equate(
 }
 
 /// A side that is a whole literal: its first name is the predicate.
-fn atom_of(side: Items<Occurrence>, tokens: &[Token]) -> Result<(WrittenLiteral, &[Token]), Stop>
-    ensures { Gives (λ x. (x.0, x.1.now)) result (of.atom_of true side tokens.now) }
+fn atom_of<'t, 'a>(
+    side: Items<Occurrence<'a>>,
+    tokens: &'t [Token<'a>],
+) -> Result<(WrittenLiteral<'a>, &'t [Token<'a>]), Stop>
+    ensures { Gives (λ x. (x.0, x.1.now)) result (of.atom_of true side.entry tokens.now) }
 {
     if side.is_empty() {
         return Err(stop_at(tokens));

@@ -8,7 +8,7 @@ ghost use Rattle.sc_scan.specs.Told.{Gives};
 ghost use Rattle.sc_grammar.specs.Items.{beyond, clipped_read, numeral_value};
 
 use sc_reading::{Sign, Token};
-use sc_scan::{Stop, a_word, stop_at};
+use sc_scan::{Stop, a_word, is_sign, stop_at};
 
 // Greater than each number of at most ten digits, and so than each number in the range of a parameter.
 const BEYOND: u64 = 10_000_000_000;
@@ -37,25 +37,29 @@ fn numeral_value(text: &[u8]) -> Option<u64>
     Some(value)
 }
 
-fn a_numeral(tokens: &[Token]) -> Result<(i64, &[Token]), Stop>
+fn a_numeral<'t, 'a>(tokens: &'t [Token<'a>]) -> Result<(i64, &'t [Token<'a>]), Stop>
     ensures { Gives (λ x. (x.0, x.1.now)) result (clipped_read (of.a_numeral tokens.now)) }
 {
     let (_, text, rest) = a_word(tokens)?;
-    match numeral_value(text.as_slice()) {
+    match numeral_value(text) {
         Some(value) => Ok((value as i64, rest)),
         None => Err(stop_at(tokens)),
     }
 }
 
 /// Digits, or `-` and digits. A value from `BEYOND` on, of either sign, is answered as `BEYOND` with that sign.
-pub fn read_number(tokens: &[Token]) -> Result<(i64, &[Token]), Stop>
+pub fn read_number<'t, 'a>(tokens: &'t [Token<'a>]) -> Result<(i64, &'t [Token<'a>]), Stop>
     ensures { Gives (λ x. (x.0, x.1.now)) result (clipped_read (of.number tokens.now)) }
 {
     match tokens {
-        [Token::Punctuation(_, Sign::Minus), rest @ ..] => {
-            let (value, rest) = a_numeral(rest)?;
-            Ok((-value, rest))
+        [] => a_numeral(tokens),
+        [token, rest @ ..] => {
+            if is_sign(Sign::Minus, token) {
+                let (value, rest) = a_numeral(rest)?;
+                Ok((-value, rest))
+            } else {
+                a_numeral(tokens)
+            }
         }
-        _ => a_numeral(tokens),
     }
 }

@@ -7,17 +7,17 @@ ghost use Rattle.sc_reading.specs.ClauseGrammar.{side, side_within, arguments};
 ghost use Rattle.sc_scan.specs.Told.{Gives};
 ghost use Rattle.sc_grammar.specs.Behind.{behind, sides_behind};
 
-use sc_reading::{Occurrence, Sign, Token};
-use sc_scan::{Stop, a_name, next_is_sign, stop_at, the_sign};
+use sc_reading::{Lexeme, Occurrence, Sign, Token};
+use sc_scan::{Rest, Stop, a_name, next_is_sign, stop_at, the_sign};
 use sqlite_items::Items;
 use std::alloc::Global;
 
 /// Puts the names of a side behind those in `names`, and answers the tokens behind the side.
-pub fn read_side<'a>(
+pub fn read_side<'t, 'a>(
     alloc: Global,
-    tokens: &'a [Token],
-    names: &mut Items<Occurrence>,
-) -> Result<&'a [Token], Stop>
+    tokens: &'t [Token<'a>],
+    names: &mut Items<Occurrence<'a>>,
+) -> Result<&'t [Token<'a>], Stop>
     ensures { Gives (λ x. (names.new, x.now)) result (behind names.old (side tokens.now)) }
 {
     side_within(alloc, tokens.len(), tokens, names)
@@ -25,22 +25,22 @@ pub fn read_side<'a>(
 
 /// A side that nests in at most `n` levels.
 #[cycle(side)]
-fn side_within<'a>(
+fn side_within<'t, 'a>(
     alloc: Global,
     n: usize,
-    tokens: &'a [Token],
-    names: &mut Items<Occurrence>,
-) -> Result<&'a [Token], Stop>
+    tokens: &'t [Token<'a>],
+    names: &mut Items<Occurrence<'a>>,
+) -> Result<&'t [Token<'a>], Stop>
     ensures { Gives (λ x. (names.new, x.now)) result (behind names.old (side_within n tokens.now)) }
 {
     if n == 0 {
         return Err(stop_at(tokens));
     }
-    let (at, name, rest) = a_name(alloc, tokens)?;
+    let (at, name, rest) = a_name(tokens)?;
     let place = names.len();
     names.push(Occurrence {
         at,
-        name: Items::new(alloc),
+        name: Lexeme::new(b"".as_slice()),
         arity: 0,
     })?;
     let (arity, rest) = arguments(alloc, n - 1, rest, names)?;
@@ -50,12 +50,12 @@ fn side_within<'a>(
 
 /// None without an opening parenthesis; answers how many there are.
 #[cycle(side)]
-fn arguments<'a>(
+fn arguments<'t, 'a>(
     alloc: Global,
     n: usize,
-    tokens: &'a [Token],
-    names: &mut Items<Occurrence>,
-) -> Result<(u64, &'a [Token]), Stop>
+    tokens: &'t [Token<'a>],
+    names: &mut Items<Occurrence<'a>>,
+) -> Result<(u64, &'t [Token<'a>]), Stop>
     ensures { Gives (λ x. ((x.0, names.new), x.1.now)) result (sides_behind 0 names.old (arguments (spec.separated Comma (side_within n) n) tokens.now)) }
 {
     if next_is_sign(Sign::Open, tokens) {
@@ -70,24 +70,26 @@ fn arguments<'a>(
 
 /// One or more sides, at most `most`, with `,` between them; answers how many.
 #[cycle(side)]
-fn sides<'a>(
+fn sides<'t, 'a>(
     alloc: Global,
     n: usize,
     most: usize,
-    tokens: &'a [Token],
-    names: &mut Items<Occurrence>,
-) -> Result<(u64, &'a [Token]), Stop>
+    tokens: &'t [Token<'a>],
+    names: &mut Items<Occurrence<'a>>,
+) -> Result<(u64, &'t [Token<'a>]), Stop>
     ensures { Gives (λ x. ((x.0, names.new), x.1.now)) result (sides_behind 0 names.old (spec.separated Comma (side_within n) most tokens.now)) }
 {
     let mut count = 0;
-    let mut rest = tokens;
+    let mut rest = Rest::new(tokens);
     for _ in 0..most {
-        let after = side_within(alloc, n, rest, names)?;
+        let left = rest.tokens();
+        let after = side_within(alloc, n, left, names)?;
         count += 1;
         if !next_is_sign(Sign::Comma, after) {
             return Ok((count, after));
         }
-        rest = the_sign(Sign::Comma, after)?;
+        let next = the_sign(Sign::Comma, after)?;
+        rest = Rest::new(next);
     }
-    Err(stop_at(rest))
+    Err(stop_at(rest.tokens()))
 }

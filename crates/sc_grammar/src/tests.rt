@@ -1,48 +1,9 @@
 use super::*;
-use sc_reading::{InputKind, Occurrence, Sign, Token, WrittenLiteral};
-use sc_scan::Stop;
+use sc_reading::{InputKind, Occurrence, Token, WrittenLiteral};
+use sc_scan::{Stop, scan_problem};
 use sqlite_items::Items;
 use std::alloc::{AllocError, Global};
 use std::test::Fail;
-
-fn sign_of(byte: u8) -> Option<Sign> {
-    match byte {
-        b'(' => Some(Sign::Open),
-        b')' => Some(Sign::Close),
-        b',' => Some(Sign::Comma),
-        b'.' => Some(Sign::Stop),
-        b'|' => Some(Sign::Bar),
-        b'-' => Some(Sign::Minus),
-        b'=' => Some(Sign::Equal),
-        b'!' => Some(Sign::Unequal),
-        _ => None,
-    }
-}
-
-/// The words and signs of a text without comments, in which `!` alone stands for `!=`.
-fn tokens_of(alloc: Global, text: &[u8]) -> Result<Vec<Token>, AllocError> {
-    let mut tokens = Vec::new(alloc);
-    let mut word: Items<u8> = Items::new(alloc);
-    for (at, byte) in text.iter().enumerate() {
-        let sign = sign_of(*byte);
-        if sign.is_none() && *byte != b' ' {
-            word.push(*byte)?;
-            continue;
-        }
-        if !word.is_empty() {
-            let begin = (at as u64).saturating_sub(word.len() as u64);
-            tokens.push(Token::Word(begin, word))?;
-            word = Items::new(alloc);
-        }
-        if let Some(sign) = sign {
-            tokens.push(Token::Punctuation(at as u64, sign))?;
-        }
-    }
-    if !word.is_empty() {
-        tokens.push(Token::Word(text.len() as u64, word))?;
-    }
-    Ok(tokens)
-}
 
 /// A name and how many arguments it has, behind a space.
 fn show_name(text: &mut Vec<u8>, o: &Occurrence) -> Result<(), AllocError> {
@@ -105,42 +66,50 @@ fn is_wanted(want: Want, shown: &[u8], found: Result<usize, Stop>) -> bool {
     }
 }
 
-fn clause_is(alloc: Global, text: &str, want: Want) -> Result<bool, AllocError> {
-    let tokens = tokens_of(alloc, text.as_bytes())?;
+/// Reads and shows a clause; how many tokens are left behind it.
+fn shown_clause(alloc: Global, tokens: &[Token], shown: &mut Vec<u8>) -> Result<usize, Stop> {
+    let (clause, rest) = read_clause(alloc, tokens)?;
+    show_clause(shown, clause.as_slice())?;
+    Ok(rest.len())
+}
+
+fn clause_is(alloc: Global, text: &str, want: Want) -> Result<bool, Fail> {
+    let tokens = scan_problem(alloc, text.as_bytes())?;
     let mut shown = Vec::new(alloc);
-    let found = match read_clause(alloc, tokens.as_slice()) {
-        Ok((clause, rest)) => {
-            show_clause(&mut shown, clause.as_slice())?;
-            Ok(rest.len())
-        }
-        Err(stop) => Err(stop),
-    };
+    let found = shown_clause(alloc, tokens.as_slice(), &mut shown);
     Ok(is_wanted(want, shown.as_slice(), found))
 }
 
-/// The same of the items of a problem, which a word `proof` may end where `before_section` is true.
-fn items_are(
+fn read<'t, 'a>(
     alloc: Global,
     before_section: bool,
-    text: &str,
-    want: Want,
-) -> Result<bool, AllocError> {
-    let tokens = tokens_of(alloc, text.as_bytes())?;
-    let read = if before_section {
-        read_items(alloc, tokens.as_slice())
+    tokens: &'t [Token<'a>],
+) -> Result<(Items<Item<'a>>, &'t [Token<'a>]), Stop> {
+    if before_section {
+        read_items(alloc, tokens)
     } else {
-        read_problem(alloc, tokens.as_slice())
-    };
+        read_problem(alloc, tokens)
+    }
+}
+
+/// The same of the items of a problem, which a word `proof` may end where `before_section` is true.
+fn shown_items(
+    alloc: Global,
+    before_section: bool,
+    tokens: &[Token],
+    shown: &mut Vec<u8>,
+) -> Result<usize, Stop> {
+    let (items, rest) = read(alloc, before_section, tokens)?;
+    for item in items.as_slice() {
+        show_item(alloc, shown, item)?;
+    }
+    Ok(rest.len())
+}
+
+fn items_are(alloc: Global, before_section: bool, text: &str, want: Want) -> Result<bool, Fail> {
+    let tokens = scan_problem(alloc, text.as_bytes())?;
     let mut shown = Vec::new(alloc);
-    let found = match read {
-        Ok((items, rest)) => {
-            for item in items.as_slice() {
-                show_item(alloc, &mut shown, item)?;
-            }
-            Ok(rest.len())
-        }
-        Err(stop) => Err(stop),
-    };
+    let found = shown_items(alloc, before_section, tokens.as_slice(), &mut shown);
     Ok(is_wanted(want, shown.as_slice(), found))
 }
 
@@ -150,11 +119,11 @@ fn clauses_are_read_in_each_form(rt: HostRuntime) -> Result<(), Fail> {
     for (text, want) in [
         ("p(f(x),a).", Want::Read("+ p/2 f/1 x/0 a/0;", 1)),
         ("a=b", Want::Read("+ =/2 a/0 b/0;", 0)),
-        ("f(a)!b | q.", Want::Read("- =/2 f/1 a/0 b/0;+ q/0;", 1)),
+        ("f(a)!=b | q.", Want::Read("- =/2 f/1 a/0 b/0;+ q/0;", 1)),
         ("(a=b)", Want::Read("+ =/2 a/0 b/0;", 0)),
         ("-p(x)", Want::Read("- p/1 x/0;", 0)),
         ("-(a=b)", Want::Read("- =/2 a/0 b/0;", 0)),
-        ("-(a!b)", Want::Read("+ =/2 a/0 b/0;", 0)),
+        ("-(a!=b)", Want::Read("+ =/2 a/0 b/0;", 0)),
         ("$F.", Want::Read("", 1)),
         ("-a=b", Want::Read("- a/0;", 2)),
         ("p | $F", Want::Stop(1, Unexpected)),

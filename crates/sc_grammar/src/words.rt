@@ -9,7 +9,6 @@ ghost use Rattle.sc_grammar.specs.Words.{known_words, unsupported_words};
 
 use sc_reading::{InputKind, Token};
 use sc_scan::{Stop, a_word};
-use sqlite_items::Items;
 
 pub const SET: &str = "set";
 
@@ -155,17 +154,17 @@ fn is_unsupported(vocabulary: Vocabulary, word: &[u8]) -> bool
 
 /// A word of the vocabulary, where it begins, and what stands behind it. A word that is known and not supported is
 /// refused as such, each other as unknown.
-pub fn a_listed_name(
+pub fn a_listed_name<'t, 'a>(
     vocabulary: Vocabulary,
-    tokens: &[Token],
-) -> Result<(u64, &Items<u8>, &[Token]), Stop>
+    tokens: &'t [Token<'a>],
+) -> Result<(u64, &'a [u8], &'t [Token<'a>]), Stop>
     ensures { Gives (λ x. (record { at = x.0; text = x.1.now }, x.2.now)) result (spec.a_listed_name (known_words vocabulary) (unsupported_words vocabulary) tokens.now) }
 {
     let (at, word, rest) = a_word(tokens)?;
-    if is_known(vocabulary, word.as_slice()) {
+    if is_known(vocabulary, word) {
         return Ok((at, word, rest));
     }
-    let kind = if is_unsupported(vocabulary, word.as_slice()) {
+    let kind = if is_unsupported(vocabulary, word) {
         InputKind::Unsupported
     } else {
         InputKind::UnknownName

@@ -19,9 +19,9 @@ use Rattle.sc_input.specs.Answer.{production, first_byte, read_at, fault_at, ans
 use Rattle.sc_input.proofs.Judging.{few_left, answer_fails, judged_unlimited, judged_limited}
 use Rattle.sc_input.proofs.Stating.{problem_stated, items_stated, problem_refused, items_refused}
 
-pub on_ok : {X A : Type 0} (view : X → A × ℕ) (res : Result X InputError) (behind : Result ℕ Place) (r : Read A) (a : A) (left : List Token)
-    → r ≡ Ok (a, left) → Tells view res (read_at a (first_byte behind left)) → Tells view res (answer behind r)
-on_ok view res behind r a left e h = subst (Tells view res) (sym (ap (answer behind) e)) h
+pub on_ok : {X A : Type 0} (view : X → A × ℕ) (res : Result X InputError) (behind : Result ℕ Place) (r : Read A) (a : A) (at : Result ℕ Place)
+    → answer behind r ≡ read_at a at → Tells view res (read_at a at) → Tells view res (answer behind r)
+on_ok view res behind r a at e h = subst (Tells view res) (sym e) h
 
 pub on_failure : (err : InputError) (behind : Result ℕ Place) (before_section : Bool) (ts : List Token) (n : ℕ) (kind : InputKind)
     → failure_of (clipped_items (production before_section ts)) ≡ Some (n, kind) → err ≡ Refused (fault_at kind (first_byte behind (drop (length ts - n) ts)))

@@ -5,7 +5,7 @@ ghost use Rattle.sc_reading.specs.Token.{at_of};
 ghost use Rattle.sc_reading.specs.Faults.{judged};
 ghost use Rattle.sc_reading.specs.ProblemLimits.{problem_bounds, problem_fault_at};
 ghost use Rattle.sc_reading.specs.Reading.{problem_of, items_of};
-ghost use Rattle.sc_scan.specs.Told.{Gives};
+ghost use Rattle.sc_scan.specs.Told.{Fails, Gives};
 ghost use Rattle.sc_grammar.specs.Items as grammar;
 ghost use Rattle.sc_input.specs.declared.refusal.InputError.TheVariants.{Refused};
 ghost use Rattle.sc_input.specs.Refusal.{Refuses};
@@ -50,8 +50,11 @@ pub fn first_byte(behind: Result<u64, Place>, tokens: &[Token]) -> Result<u64, P
     }
 }
 
-fn items_at(items: List<Item>, at: Result<u64, Place>) -> Result<(List<Item>, u64), InputError>
-    ensures { Tells (λ x. (grammar.items_of x.0, x.1)) result (spec.read_at (grammar.items_of items) at) }
+fn items_at<'a>(
+    items: List<Item<'a>>,
+    at: Result<u64, Place>,
+) -> Result<(List<Item<'a>>, u64), InputError>
+    ensures { Tells (λ x. (grammar.items_of x.0, x.1)) result (spec.read_at (grammar.items_of items.entry) at) }
 {
     match at {
         Ok(at) => Ok((items, at)),
@@ -70,7 +73,7 @@ pub fn fault_at(kind: InputKind, at: Result<u64, Place>) -> InputError
 }
 
 /// The last tokens, so many of them.
-pub fn last_tokens(tokens: &[Token], count: usize) -> &[Token]
+pub fn last_tokens<'t, 'a>(tokens: &'t [Token<'a>], count: usize) -> &'t [Token<'a>]
     requires { count ≤ length tokens.now }
     ensures { result.now ≡ drop (length tokens.now - count) tokens.now }
 {
@@ -79,11 +82,11 @@ pub fn last_tokens(tokens: &[Token], count: usize) -> &[Token]
 }
 
 /// The items of a problem, which a section of a proof or a run may follow or not.
-fn production(
+fn production<'t, 'a>(
     alloc: Global,
     before_section: bool,
-    tokens: &[Token],
-) -> Result<(List<Item>, &[Token]), Stop>
+    tokens: &'t [Token<'a>],
+) -> Result<(List<Item<'a>>, &'t [Token<'a>]), Stop>
     ensures { Gives (λ x. (grammar.items_of x.0, x.1.now)) result (grammar.clipped_items (spec.production before_section tokens.now)) }
 {
     if before_section {
@@ -93,22 +96,33 @@ fn production(
     }
 }
 
-/// What is read of tokens that pass no limit, or only with the last of them. Behind them stands the byte at which the
-/// text ends, or that limit: it is the answer where they are read to their end.
-#[tactic(auto, using(crate::proofs::Laws::up_to))]
-fn read_up_to(
+/// The items that the tokens begin with, and where the first token left begins, or what stands behind all.
+fn items_up_to<'a>(
     alloc: Global,
     before_section: bool,
     behind: Result<u64, Place>,
-    tokens: &[Token],
-) -> Result<(List<Item>, u64), InputError>
+    tokens: &[Token<'a>],
+) -> Result<(List<Item<'a>>, Result<u64, Place>), Stop>
+    ensures ok { IfOk result (λ x. spec.answer behind (grammar.clipped_items (spec.production before_section tokens.now)) ≡ spec.read_at (grammar.items_of x.0) x.1) }
+    ensures err { IfErr result (λ e. Fails e (grammar.clipped_items (spec.production before_section tokens.now))) }
+{
+    let (items, left) = production(alloc, before_section, tokens)?;
+    Ok((items, first_byte(behind, left)))
+}
+
+/// What is read of tokens that pass no limit, or only with the last of them. Behind them stands the byte at which the
+/// text ends, or that limit: it is the answer where they are read to their end.
+#[tactic(auto, using(crate::proofs::Laws::up_to))]
+fn read_up_to<'a>(
+    alloc: Global,
+    before_section: bool,
+    behind: Result<u64, Place>,
+    tokens: &[Token<'a>],
+) -> Result<(List<Item<'a>>, u64), InputError>
     ensures { Tells (λ x. (grammar.items_of x.0, x.1)) result (spec.answer behind (grammar.clipped_items (spec.production before_section tokens.now))) }
 {
-    match production(alloc, before_section, tokens) {
-        Ok((items, left)) => {
-            let at = first_byte(behind, left);
-            items_at(items, at)
-        }
+    match items_up_to(alloc, before_section, behind, tokens) {
+        Ok((items, at)) => items_at(items, at),
         Err(Stop::At(left, kind)) => {
             let at = first_byte(behind, last_tokens(tokens, left));
             Err(fault_at(kind, at))
@@ -119,12 +133,12 @@ fn read_up_to(
 
 /// What is read of all tokens: those behind the first that passes a limit are never looked at.
 #[tactic(auto, using(crate::proofs::Laws::within))]
-fn read_tokens(
+fn read_tokens<'a>(
     alloc: Global,
     before_section: bool,
     end: u64,
-    tokens: &[Token],
-) -> Result<(List<Item>, u64), InputError>
+    tokens: &[Token<'a>],
+) -> Result<(List<Item<'a>>, u64), InputError>
     ensures { Tells (λ x. (grammar.items_of x.0, x.1)) result (spec.told end (judged (problem_fault_at problem_bounds) end tokens.now (spec.production before_section tokens.now))) }
 {
     match first_limit(alloc, tokens)? {
@@ -137,11 +151,11 @@ fn read_tokens(
 }
 
 /// What is read of bytes: the items, and the byte behind them.
-fn read_bytes(
+fn read_bytes<'a>(
     alloc: Global,
     before_section: bool,
-    bytes: &[u8],
-) -> Result<(List<Item>, u64), InputError>
+    bytes: &'a [u8],
+) -> Result<(List<Item<'a>>, u64), InputError>
     ensures { Tells (λ x. (grammar.items_of x.0, x.1)) result (spec.judged_at before_section bytes.now) }
 {
     let tokens = scan_problem(alloc, bytes)?;

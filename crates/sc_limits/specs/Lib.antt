@@ -4,3 +4,4 @@ pub mod Symbols
 pub mod Positions
 pub mod Limits
 pub mod Reached
+pub mod Query

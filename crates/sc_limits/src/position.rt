@@ -49,7 +49,7 @@ pub fn closes(sentence: &[Token]) -> bool
 }
 
 /// The tokens from one to another.
-pub fn between(tokens: &[Token], from: usize, to: usize) -> &[Token]
+pub fn between<'t, 'a>(tokens: &'t [Token<'a>], from: usize, to: usize) -> &'t [Token<'a>]
     requires ordered { from ≤ to }
     requires within { to ≤ length tokens.now }
     ensures { result.now ≡ drop from (take to tokens.now) }

@@ -11,7 +11,7 @@ ghost use Rattle.sc_limits.specs.Numbers.{as_range, capped_numeral, capped_numbe
 
 use crate::count::first_at;
 use sc_reading::{Sign, Token};
-use sc_scan::is_word;
+use sc_scan::{is_sign, is_word};
 
 /// Above every number of a range.
 const CAP: u64 = 10_000_000_000;
@@ -56,14 +56,17 @@ fn numeral(tokens: &[Token]) -> Option<u64>
     ensures capped { IfSome result (λ n. n ≤ CAP) }
 {
     match tokens {
-        [Token::Word(_, text), ..] => {
-            if is_numeral(text.as_slice()) {
-                Some(capped_value(text.as_slice()))
-            } else {
-                None
+        [] => None,
+        [token, ..] => match token {
+            Token::Word(_, text) => {
+                if is_numeral(text.as_slice()) {
+                    Some(capped_value(text.as_slice()))
+                } else {
+                    None
+                }
             }
-        }
-        _ => None,
+            _ => None,
+        },
     }
 }
 
@@ -72,14 +75,20 @@ pub fn number(tokens: &[Token]) -> Option<i64>
     ensures { result ≡ capped_number tokens.now }
 {
     match tokens {
-        [Token::Punctuation(_, Sign::Minus), rest @ ..] => match numeral(rest) {
-            Some(n) => Some(-(n as i64)),
-            None => None,
-        },
-        _ => match numeral(tokens) {
-            Some(n) => Some(n as i64),
-            None => None,
-        },
+        [] => None,
+        [token, rest @ ..] => {
+            if is_sign(Sign::Minus, token) {
+                match numeral(rest) {
+                    Some(n) => Some(-(n as i64)),
+                    None => None,
+                }
+            } else {
+                match numeral(tokens) {
+                    Some(n) => Some(n as i64),
+                    None => None,
+                }
+            }
+        }
     }
 }
 
@@ -87,7 +96,7 @@ fn digits_of(token: &Token) -> usize
     ensures { result ≡ length (spec.last_digits (token.now ∷ [])) }
 {
     match token {
-        Token::Word(_, text) => text.len(),
+        Token::Word(_, text) => text.as_slice().len(),
         _ => 0,
     }
 }

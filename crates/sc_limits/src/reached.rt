@@ -43,7 +43,7 @@ pub struct Reached {
 }
 
 /// The clause that tokens begin with, or the empty one where they begin with none.
-fn written(alloc: Global, tokens: &[Token]) -> Mem<Items<WrittenLiteral>>
+fn written<'t, 'a>(alloc: Global, tokens: &'t [Token<'a>]) -> Mem<Items<WrittenLiteral<'a>>>
     ensures { IfOk result (λ c. c ≡ spec.written tokens.now) }
 {
     match read_clause(alloc, tokens) {

@@ -7,10 +7,11 @@ ghost use Rattle.std.specs.Cmp.Rules.{comparing, hashing};
 ghost use Rattle.sc_term.specs.Symbol.{role_number, equality};
 ghost use Rattle.sc_reading.specs.Numbering as spec;
 ghost use Rattle.sc_limits.specs.Symbols.{same_written, as_written, FindsMore};
+ghost use Rattle.sc_limits.specs.Query.{same_query, written_of};
 
 use crate::bounds::MOST_SYMBOLS;
 use crate::demodulator::is_variable;
-use indexmap::IndexSet;
+use indexmap::{Equivalent, IndexSet};
 use sc_reading::{Occurrence, WrittenLiteral};
 use sc_term::{Mem, Role};
 use sqlite_items::Items;
@@ -62,6 +63,55 @@ impl Hash for WrittenSymbol {
     }
 }
 
+/// The parts of a symbol as it is written, its name borrowed: what the set of symbols is asked for.
+#[derive(Clone, Copy)]
+struct Query<'a> {
+    name: &'a [u8],
+    arity: u64,
+    role: Role,
+}
+
+impl<'a> PartialEq for Query<'a> {
+    ghost eq = { same_query };
+
+    ghost laws = { Prim.search (comparing, rules) };
+
+    fn eq(&self, other: &Query<'a>) -> bool {
+        self.name == other.name
+            && self.arity == other.arity
+            && role_number(self.role) == role_number(other.role)
+    }
+}
+
+impl<'a> Eq for Query<'a> {
+    ghost laws = { Prim.search (comparing, rules) };
+}
+
+impl<'a> Hash for Query<'a> {
+    ghost hash_input = { λ q. fed.slice fed.u8 q.name.now ++ fed.u64 q.arity };
+
+    ghost respects_eq = { Prim.search (hashing, rules) };
+
+    fn hash<H: Hasher>(&self, state: &mut H) {
+        self.name.hash(state);
+        self.arity.hash(state);
+    }
+}
+
+impl<'a> Equivalent<WrittenSymbol> for Query<'a> {
+    ghost equivalent = { λ q s. same_written (written_of q) s };
+
+    ghost respects_hash = { Prim.search (hashing, rules) };
+
+    ghost respects_eq = { Prim.search (comparing, rules) };
+
+    fn equivalent(&self, symbol: &WrittenSymbol) -> bool {
+        self.name == symbol.name.as_slice()
+            && self.arity == symbol.arity
+            && role_number(self.role) == role_number(symbol.role)
+    }
+}
+
 /// Symbols, each once, in the order in which they were added.
 #[derive(Drop)]
 pub struct Symbols {
@@ -91,17 +141,27 @@ impl Symbols {
         Ok(Symbols { symbols })
     }
 
-    /// Adds the symbol, found at a byte. That byte is answered where there is no room.
-    fn add(&mut self, symbol: WrittenSymbol, at: u64) -> Mem<Option<u64>>
-        ensures { IfOk result (λ told. FindsMore (record { symbol = record { name = symbol.name; arity = symbol.arity; role = symbol.role }; at = at } ∷ []) self.old self.new told) }
+    /// Adds the symbol of this name, arity and role, found at a byte. That byte is answered where there is no room. The
+    /// name is copied only where the symbol is new.
+    fn add(
+        &mut self,
+        alloc: Global,
+        name: &[u8],
+        arity: u64,
+        role: Role,
+        at: u64,
+    ) -> Mem<Option<u64>>
+        ensures { IfOk result (λ told. FindsMore (record { symbol = record { name = name.now; arity = arity; role = role }; at = at } ∷ []) self.old self.new told) }
     {
-        if self.symbols.contains(&symbol) {
+        if self.symbols.contains(Query { name, arity, role }) {
             return Ok(None);
         }
         if MOST_SYMBOLS <= self.symbols.len() {
             return Ok(Some(at));
         }
-        self.symbols.insert_full(symbol)?;
+        let name = Items::from_slice(alloc, name)?;
+        self.symbols
+            .insert_full(WrittenSymbol { name, arity, role })?;
         Ok(None)
     }
 }
@@ -114,9 +174,8 @@ fn add_occurrence(
 ) -> Mem<Option<u64>>
     ensures { IfOk result (λ told. FindsMore (record { symbol = record { name = occurrence.now.name; arity = occurrence.now.arity; role = role }; at = occurrence.now.at } ∷ []) symbols.old symbols.new told) }
 {
-    let name = Items::from_slice(alloc, occurrence.name.as_slice())?;
-    let arity = occurrence.arity;
-    symbols.add(WrittenSymbol { name, arity, role }, occurrence.at)
+    let name = occurrence.name.as_slice();
+    symbols.add(alloc, name, occurrence.arity, role, occurrence.at)
 }
 
 fn add_functions(alloc: Global, symbols: &mut Symbols, names: &[Occurrence]) -> Mem<Option<u64>>

@@ -1,10 +1,9 @@
 use super::*;
-use sc_reading::{InputKind, Sign, Token};
-use sqlite_items::Items;
+use sc_reading::{InputKind, Lexeme, Sign, Token};
 use std::alloc::Global;
 use std::test::Fail;
 
-fn token(alloc: Global, at: u64, piece: &str) -> Result<Token, Fail> {
+fn token<'a>(at: u64, piece: &'a str) -> Token<'a> {
     let sign = match piece {
         "(" => Sign::Open,
         ")" => Sign::Close,
@@ -14,16 +13,16 @@ fn token(alloc: Global, at: u64, piece: &str) -> Result<Token, Fail> {
         "-" => Sign::Minus,
         "=" => Sign::Equal,
         "!=" => Sign::Unequal,
-        _ => return Ok(Token::Word(at, Items::from_slice(alloc, piece.as_bytes())?)),
+        _ => return Token::Word(at, Lexeme::new(piece.as_bytes())),
     };
-    Ok(Token::Punctuation(at, sign))
+    Token::Punctuation(at, sign)
 }
 
 /// The tokens of pieces with a space between. Each begins at its number.
-fn tokens(alloc: Global, text: &str) -> Result<Vec<Token>, Fail> {
+fn tokens<'a>(alloc: Global, text: &'a str) -> Result<Vec<Token<'a>>, Fail> {
     let mut tokens = Vec::new(alloc);
     for piece in text.split(' ') {
-        tokens.push(token(alloc, tokens.len() as u64, piece)?)?;
+        tokens.push(token(tokens.len() as u64, piece))?;
     }
     Ok(tokens)
 }

@@ -9,7 +9,7 @@ ghost use Rattle.sc_problem.specs.Once.{with_each};
 use crate::variables::is_variable;
 use sc_data::SymId;
 use sc_reading::{Occurrence, WrittenLiteral};
-use sc_term::{Mem, OutOfMemory, Role, SigError, Signature, Symbol};
+use sc_term::{Mem, OutOfMemory, Role, SigError, Signature};
 use sqlite_items::Items;
 use std::alloc::Global;
 
@@ -20,34 +20,17 @@ fn keeps(sig: &Signature)
     let _ = sig.len();
 }
 
-fn symbol_at(alloc: Global, role: Role, occurrence: &Occurrence) -> Mem<Symbol>
-    requires { occurrence.now.arity ≤ 8 }
-    ensures { IfOk result (λ symbol. symbol ≡ symbol_at role occurrence.now) }
-{
-    Ok(Symbol {
-        name: Items::from_slice(alloc, occurrence.name.as_slice())?,
-        arity: occurrence.arity as u8,
-        role,
-    })
-}
-
 /// The number of the name's symbol, 0 where the signature doesn't have it.
-pub fn symbol_number(
-    alloc: Global,
-    sig: &Signature,
-    role: Role,
-    occurrence: &Occurrence,
-) -> Mem<SymId>
-    ensures { IfOk result (λ id. id ≡ spec.symbol_number sig.now (symbol_at role occurrence.now)) }
+pub fn symbol_number(sig: &Signature, role: Role, occurrence: &Occurrence) -> SymId
+    ensures { result ≡ spec.symbol_number sig.now (symbol_at role occurrence.now) }
 {
     keeps(sig);
     if occurrence.arity > 8 {
-        return Ok(SymId(0));
+        return SymId(0);
     }
-    let symbol = symbol_at(alloc, role, occurrence)?;
-    match sig.find(&symbol) {
-        Some(id) => Ok(id),
-        None => Ok(SymId(0)),
+    match sig.number_of(occurrence.name.as_slice(), occurrence.arity as u8, role) {
+        Some(id) => id,
+        None => SymId(0),
     }
 }
 
@@ -55,8 +38,8 @@ fn add_symbol(alloc: Global, sig: &mut Signature, role: Role, occurrence: &Occur
     requires { MayJoin sig.old (symbol_at role occurrence.now ∷ []) }
     ensures { OnOk result (sig.new ≡ with_each same_symbol sig.old (symbol_at role occurrence.now ∷ [])) }
 {
-    let symbol = symbol_at(alloc, role, occurrence)?;
-    match sig.add(symbol) {
+    let name = occurrence.name.as_slice();
+    match sig.add_named(alloc, name, occurrence.arity as u8, role) {
         Ok(_) => Ok(()),
         Err(SigError::OutOfMemory) => Err(OutOfMemory),
         Err(SigError::TooMany) => unreachable!(),

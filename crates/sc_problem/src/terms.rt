@@ -46,7 +46,7 @@ pub fn terms_from<N: Numbering>(
         let args = take_off(&mut stack, occurrence.arity)?;
         let term = match variables.number(occurrence) {
             Some(number) => Term::Var(number),
-            None => Term::App(symbol_number(alloc, sig, Role::Function, occurrence)?, args),
+            None => Term::App(symbol_number(sig, Role::Function, occurrence), args),
         };
         stack.push(term)?;
     }
@@ -65,7 +65,7 @@ pub fn literal_from<N: Numbering>(
 {
     Ok(Literal {
         positive: written.positive,
-        pred: symbol_number(alloc, sig, Role::Predicate, &written.predicate)?,
+        pred: symbol_number(sig, Role::Predicate, &written.predicate),
         args: terms_from(alloc, variables, sig, written.arguments.as_slice())?,
     })
 }

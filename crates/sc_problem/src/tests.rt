@@ -7,35 +7,35 @@ ghost use Rattle.sc_problem.specs.Names.{HasFewVariables};
 use super::*;
 use sc_data::{Clause, Literal, SymId, Term};
 use sc_grammar::{Item, Name};
-use sc_reading::{Flags, Occurrence, WrittenLiteral};
+use sc_reading::{Flags, Lexeme, Occurrence, WrittenLiteral};
 use sc_term::{Mem, same};
 use sqlite_items::Items;
 use std::alloc::Global;
 
-fn name(alloc: Global, at: u64, text: &str, arity: u64) -> Mem<Occurrence>
-    ensures { IfOk result (λ o. o ≡ record { at = at; name = text.now; arity = arity }) }
+fn name<'a>(at: u64, text: &'a str, arity: u64) -> Occurrence<'a>
+    ensures { result ≡ record { at = at; name = text.now; arity = arity } }
 {
-    Ok(Occurrence {
+    Occurrence {
         at,
-        name: Items::from_slice(alloc, text.as_bytes())?,
+        name: Lexeme::new(text.as_bytes()),
         arity,
-    })
+    }
 }
 
 /// `-p(y,f(x,y)).`
-fn written(alloc: Global) -> Mem<Items<Items<WrittenLiteral>>>
+fn written<'a>(alloc: Global) -> Mem<Items<Items<WrittenLiteral<'a>>>>
     ensures signature { IfOk result (λ clauses. IsSignature (symbols_of clauses)) }
     ensures variables { IfOk result (λ clauses. AllByRecursion HasFewVariables clauses) }
 {
     let mut arguments = Items::new(alloc);
-    arguments.push(name(alloc, 3, "y", 0)?)?;
-    arguments.push(name(alloc, 5, "f", 2)?)?;
-    arguments.push(name(alloc, 7, "x", 0)?)?;
-    arguments.push(name(alloc, 9, "y", 0)?)?;
+    arguments.push(name(3, "y", 0))?;
+    arguments.push(name(5, "f", 2))?;
+    arguments.push(name(7, "x", 0))?;
+    arguments.push(name(9, "y", 0))?;
     let mut clause = Items::new(alloc);
     clause.push(WrittenLiteral {
         positive: false,
-        predicate: name(alloc, 1, "p", 2)?,
+        predicate: name(1, "p", 2),
         arguments,
     })?;
     let mut clauses = Items::new(alloc);
@@ -77,17 +77,17 @@ fn symbols_and_variables_by_first_occurrence(rt: HostRuntime) {
     assert_eq!(rt; numbered(rt.alloc()), Ok((3, true)));
 }
 
-fn setting(alloc: Global, text: &str, positive: bool) -> Mem<Item> {
-    let text = Items::from_slice(alloc, text.as_bytes())?;
-    Ok(Item::Setting(Name { at: 0, text }, positive))
+fn setting<'a>(text: &'a str, positive: bool) -> Item<'a> {
+    let text = Lexeme::new(text.as_bytes());
+    Item::Setting(Name { at: 0, text }, positive)
 }
 
 fn flags(alloc: Global) -> Mem<Flags> {
     let mut items = Items::new(alloc);
-    items.push(setting(alloc, "factor", true)?)?;
-    items.push(setting(alloc, "for_sub", false)?)?;
-    items.push(setting(alloc, "factor", false)?)?;
-    items.push(setting(alloc, "hyper_res", true)?)?;
+    items.push(setting("factor", true))?;
+    items.push(setting("for_sub", false))?;
+    items.push(setting("factor", false))?;
+    items.push(setting("hyper_res", true))?;
     Ok(flags_from(items.as_slice()))
 }
 

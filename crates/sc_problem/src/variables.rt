@@ -71,7 +71,7 @@ impl<'a> Numbering for Variables<'a> {
 }
 
 /// The variables of a clause.
-pub fn variables_of<'a>(alloc: Global, written: &'a [WrittenLiteral]) -> Mem<Variables<'a>>
+pub fn variables_of<'a>(alloc: Global, written: &[WrittenLiteral<'a>]) -> Mem<Variables<'a>>
     requires { HasFewVariables written.now }
     ensures { IfOk result (λ variables. variables ≡ variable_names written.now) }
 {
@@ -82,7 +82,7 @@ pub fn variables_of<'a>(alloc: Global, written: &'a [WrittenLiteral]) -> Mem<Var
     Ok(variables)
 }
 
-fn note_variables<'a>(variables: &mut Variables<'a>, occurrences: &'a [Occurrence]) -> Mem<()>
+fn note_variables<'a>(variables: &mut Variables<'a>, occurrences: &[Occurrence<'a>]) -> Mem<()>
     requires { length (with_each same_text variables.old (names_of_variables occurrences.now)) ≤ 2 ^ 32 }
     ensures { OnOk result (variables.new ≡ with_each same_text variables.old (names_of_variables occurrences.now)) }
 {

@@ -37,18 +37,18 @@ fn is_in_range(low: u32, high: u32, value: u64, digits: usize) -> bool
 }
 
 /// A number of those expected. It is out of range where it isn't from `low` to `high` or has more than 10 digits.
-pub fn number_in(
+pub fn number_in<'t, 'a>(
     expected: Expected,
     low: u32,
     high: u32,
-    tokens: &[Token],
-) -> Result<(u32, &[Token]), Stop>
+    tokens: &'t [Token<'a>],
+) -> Result<(u32, &'t [Token<'a>]), Stop>
     requires { IsSmall expected }
     ensures value { Gives (λ x. (x.0, x.1.now)) result (of.a_number_in (passes expected) low high tokens.now) }
     ensures range { IfOk result (λ x. (low ≤ x.0) × (x.0 ≤ high)) }
 {
     let (_, text, rest) = a_word(tokens)?;
-    match numeral_value(text.as_slice()) {
+    match numeral_value(text) {
         Some(value) if is_expected(expected, value) => {
             if is_in_range(low, high, value, text.len()) {
                 Ok((value as u32, rest))
@@ -61,7 +61,11 @@ pub fn number_in(
 }
 
 /// Any number from `low` to `high`.
-pub fn number_from(low: u32, high: u32, tokens: &[Token]) -> Result<(u32, &[Token]), Stop>
+pub fn number_from<'t, 'a>(
+    low: u32,
+    high: u32,
+    tokens: &'t [Token<'a>],
+) -> Result<(u32, &'t [Token<'a>]), Stop>
     ensures value { Gives (λ x. (x.0, x.1.now)) result (of.a_number_from low high tokens.now) }
     ensures range { IfOk result (λ x. (low ≤ x.0) × (x.0 ≤ high)) }
 {
@@ -69,14 +73,17 @@ pub fn number_from(low: u32, high: u32, tokens: &[Token]) -> Result<(u32, &[Toke
 }
 
 /// Any number.
-pub fn row_number(tokens: &[Token]) -> Result<(u32, &[Token]), Stop>
+pub fn row_number<'t, 'a>(tokens: &'t [Token<'a>]) -> Result<(u32, &'t [Token<'a>]), Stop>
     ensures { Gives (λ x. (x.0, x.1.now)) result (of.a_row_number tokens.now) }
 {
     number_from(0, u32::MAX, tokens)
 }
 
 /// This number.
-pub fn the_row_number(number: u64, tokens: &[Token]) -> Result<(u32, &[Token]), Stop>
+pub fn the_row_number<'t, 'a>(
+    number: u64,
+    tokens: &'t [Token<'a>],
+) -> Result<(u32, &'t [Token<'a>]), Stop>
     requires { number < 2 ^ 64 - 1 }
     ensures { Gives (λ x. (x.0, x.1.now)) result (of.the_row_number number tokens.now) }
 {

@@ -36,12 +36,12 @@ pub struct MarkedProof {
 }
 
 /// A word, a number from `low` to `high`, and a full stop.
-fn counted_row<'a>(
+fn counted_row<'t, 'a>(
     name: &[u8],
     low: u32,
     high: u32,
-    tokens: &'a [Token],
-) -> Result<(u32, &'a [Token]), Stop>
+    tokens: &'t [Token<'a>],
+) -> Result<(u32, &'t [Token<'a>]), Stop>
     ensures value { Gives (λ x. (x.0, x.1.now)) result (of.a_counted_row name.now low high tokens.now) }
     ensures range { IfOk result (λ x. (low ≤ x.0) × (x.0 ≤ high)) }
 {
@@ -52,7 +52,7 @@ fn counted_row<'a>(
 }
 
 /// `run.`, the number of lists and the ratio.
-fn run_heading(tokens: &[Token]) -> Result<(Heading, &[Token]), Stop>
+fn run_heading<'t, 'a>(tokens: &'t [Token<'a>]) -> Result<(Heading, &'t [Token<'a>]), Stop>
     ensures value { Gives (λ x. (heading_of x.0, x.1.now)) result (of.a_run_heading tokens.now) }
     ensures few { IfOk result (λ x. x.0.lists ≤ 8) }
 {
@@ -63,11 +63,11 @@ fn run_heading(tokens: &[Token]) -> Result<(Heading, &[Token]), Stop>
 }
 
 /// A proof section and a mark for each of its lines.
-fn marked_proof<'a>(
+fn marked_proof<'t, 'a>(
     alloc: Global,
     sig: &Signature,
-    tokens: &'a [Token],
-) -> Result<(MarkedProof, &'a [Token]), Stop>
+    tokens: &'t [Token<'a>],
+) -> Result<(MarkedProof, &'t [Token<'a>]), Stop>
     ensures { Gives (λ x. (proof_of x.0, x.1.now)) result (seen_by clipped_proof (of.marked_proof sig.now tokens.now)) }
 {
     let (lines, rest) = proof_section(alloc, sig, tokens)?;
@@ -76,12 +76,12 @@ fn marked_proof<'a>(
 }
 
 /// A marked proof behind the outcome of a proof, nothing behind another.
-fn proof_behind<'a>(
+fn proof_behind<'t, 'a>(
     alloc: Global,
     sig: &Signature,
     outcome: Outcome,
-    tokens: &'a [Token],
-) -> Result<(MarkedProof, &'a [Token]), Stop>
+    tokens: &'t [Token<'a>],
+) -> Result<(MarkedProof, &'t [Token<'a>]), Stop>
     ensures { Gives (λ x. (proof_of x.0, x.1.now)) result (seen_by clipped_proof (of.proof_behind outcome sig.now tokens.now)) }
 {
     match outcome {
@@ -97,11 +97,11 @@ fn proof_behind<'a>(
 }
 
 /// All rows in their order, and what stands behind them.
-fn run_section<'a>(
+fn run_section<'t, 'a>(
     alloc: Global,
     sig: &Signature,
-    tokens: &'a [Token],
-) -> Result<(RunText, &'a [Token]), Stop>
+    tokens: &'t [Token<'a>],
+) -> Result<(RunText, &'t [Token<'a>]), Stop>
     ensures { Gives (λ x. (run_value x.0, x.1.now)) result (seen_by clipped_run (of.run_section sig.now tokens.now)) }
 {
     let (heading, rest) = run_heading(tokens)?;
@@ -125,11 +125,11 @@ fn run_section<'a>(
 /// The run of a run text over these symbols, behind which nothing stands, and no tokens. The number of a step, of a path
 /// or of a variable that is greater than 4,294,967,295 is answered as that number. It stops for want of memory, or at
 /// the first token that `run_section` doesn't allow, or that stands behind it.
-pub fn read_run_section<'a>(
+pub fn read_run_section<'t, 'a>(
     alloc: Global,
     sig: &Signature,
-    tokens: &'a [Token],
-) -> Result<(RunText, &'a [Token]), Stop>
+    tokens: &'t [Token<'a>],
+) -> Result<(RunText, &'t [Token<'a>]), Stop>
     ensures { Gives (λ x. (run_value x.0, x.1.now)) result (seen_by clipped_run (grammar.alone (of.run_section sig.now tokens.now))) }
 {
     let (run, rest) = run_section(alloc, sig, tokens)?;

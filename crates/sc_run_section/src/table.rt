@@ -12,13 +12,13 @@ ghost use Rattle.sc_run_section.specs.Entries.{AreEntries, AreEntriesOf};
 use crate::number::{number_from, the_row_number};
 use sc_data::SymId;
 use sc_reading::{Sign, Token};
-use sc_scan::{Stop, stop_at, the_sign, the_word};
+use sc_scan::{Rest, Stop, stop_at, the_sign, the_word};
 use sc_term::{Role, Signature, Symbol};
 use sqlite_items::Items;
 use std::alloc::Global;
 
 /// `function` or `predicate`, as the role is.
-fn the_role(role: Role, tokens: &[Token]) -> Result<&[Token], Stop>
+fn the_role<'t, 'a>(role: Role, tokens: &'t [Token<'a>]) -> Result<&'t [Token<'a>], Stop>
     ensures { Gives (λ x. (tt, x.now)) result (spec.the_word (role_word role) tokens.now) }
 {
     match role {
@@ -37,7 +37,11 @@ fn greatest_entry(role: Role, size: u8) -> u32
     }
 }
 
-fn an_entry(role: Role, size: u8, tokens: &[Token]) -> Result<(u8, &[Token]), Stop>
+fn an_entry<'t, 'a>(
+    role: Role,
+    size: u8,
+    tokens: &'t [Token<'a>],
+) -> Result<(u8, &'t [Token<'a>]), Stop>
     requires { 1 ≤ size }
     ensures value { Gives (λ x. (x.0, x.1.now)) result (of.an_entry role size tokens.now) }
     ensures below { IfOk result (λ x. x.0 < values_below role size) }
@@ -47,32 +51,34 @@ fn an_entry(role: Role, size: u8, tokens: &[Token]) -> Result<(u8, &[Token]), St
 }
 
 /// So many entries.
-fn entries(
+fn entries<'t, 'a>(
     alloc: Global,
     role: Role,
     size: u8,
     count: usize,
-    tokens: &[Token],
-) -> Result<(Items<u8>, &[Token]), Stop>
+    tokens: &'t [Token<'a>],
+) -> Result<(Items<u8>, &'t [Token<'a>]), Stop>
     requires { 1 ≤ size }
     ensures value { Gives (λ x. (x.0, x.1.now)) result (counted (λ i. of.an_entry role size) (length tokens.now) 0 count tokens.now) }
     ensures many { IfOk result (λ x. length x.0 ≡ count) }
     ensures below { IfOk result (λ x. All (λ e. e < values_below role size) x.0) }
 {
     let mut front = Items::new(alloc);
-    let mut rest = tokens;
+    let mut rest = Rest::new(tokens);
     for read in 0..tokens.len() {
+        let left = rest.tokens();
         if read == count {
-            return Ok((front, rest));
+            return Ok((front, left));
         }
-        let (entry, after) = an_entry(role, size, rest)?;
+        let (entry, after) = an_entry(role, size, left)?;
         front.push(entry)?;
-        rest = after;
+        rest = Rest::new(after);
     }
+    let left = rest.tokens();
     if tokens.len() == count {
-        Ok((front, rest))
+        Ok((front, left))
     } else {
-        Err(stop_at(rest))
+        Err(stop_at(left))
     }
 }
 
@@ -87,12 +93,12 @@ fn entry_number(size: u8, arity: u8) -> usize
 }
 
 /// The table of a symbol, for as many elements.
-fn table<'a>(
+fn table<'t, 'a>(
     alloc: Global,
     size: u8,
     symbol: &Symbol,
-    tokens: &'a [Token],
-) -> Result<(Items<u8>, &'a [Token]), Stop>
+    tokens: &'t [Token<'a>],
+) -> Result<(Items<u8>, &'t [Token<'a>]), Stop>
     requires not_empty { 1 ≤ size }
     requires small { size ≤ 8 }
     requires arity { symbol.now.arity ≤ 8 }
@@ -110,12 +116,12 @@ fn table<'a>(
 }
 
 /// The table of each symbol other than `=`, in order.
-pub fn read_tables<'a>(
+pub fn read_tables<'t, 'a>(
     alloc: Global,
     sig: &Signature,
     size: u8,
-    tokens: &'a [Token],
-) -> Result<(Items<Items<u8>>, &'a [Token]), Stop>
+    tokens: &'t [Token<'a>],
+) -> Result<(Items<Items<u8>>, &'t [Token<'a>]), Stop>
     requires not_empty { 1 ≤ size }
     requires small { size ≤ 8 }
     ensures value { Gives (λ x. (x.0, x.1.now)) result (of.tables size (without_equality sig.now) tokens.now) }
@@ -123,11 +129,11 @@ pub fn read_tables<'a>(
     ensures few { IfOk result (λ x. length x.0 < 2 ^ 32 - 1) }
 {
     let mut front = Items::new(alloc);
-    let mut rest = tokens;
+    let mut rest = Rest::new(tokens);
     for number in 1..sig.len() {
-        let (entries, after) = table(alloc, size, sig.symbol(SymId(number)), rest)?;
+        let (entries, after) = table(alloc, size, sig.symbol(SymId(number)), rest.tokens())?;
         front.push(entries)?;
-        rest = after;
+        rest = Rest::new(after);
     }
-    Ok((front, rest))
+    Ok((front, rest.tokens()))
 }

@@ -15,7 +15,7 @@ use crate::words::{a_cause, a_truth, a_version_name, an_end, numbers};
 use sc_reading::{Sign, Token};
 use sc_rules::{GivenRow, KeptRow, Outcome};
 use sc_run_written::{FinderEnd, MarkRow};
-use sc_scan::{Stop, a_word, next_is_word, stop_at, the_sign, the_word};
+use sc_scan::{Rest, Stop, a_word, next_is_word, stop_at, the_sign, the_word};
 use sc_section::read_text_clause;
 use sc_term::Signature;
 use sqlite_items::Items;
@@ -31,7 +31,11 @@ pub struct Turns {
 }
 
 /// The given row of the turn.
-fn given_row(alloc: Global, turn: u64, tokens: &[Token]) -> Result<(GivenRow, &[Token]), Stop>
+fn given_row<'t, 'a>(
+    alloc: Global,
+    turn: u64,
+    tokens: &'t [Token<'a>],
+) -> Result<(GivenRow, &'t [Token<'a>]), Stop>
     requires { turn < 2 ^ 64 - 1 }
     ensures { Gives (λ x. (x.0, x.1.now)) result (of.a_given_row turn tokens.now) }
 {
@@ -54,29 +58,33 @@ fn given_row(alloc: Global, turn: u64, tokens: &[Token]) -> Result<(GivenRow, &[
 }
 
 /// The given rows of the turns from 1 on.
-fn given_rows(alloc: Global, tokens: &[Token]) -> Result<(Items<GivenRow>, &[Token]), Stop>
+fn given_rows<'t, 'a>(
+    alloc: Global,
+    tokens: &'t [Token<'a>],
+) -> Result<(Items<GivenRow>, &'t [Token<'a>]), Stop>
     ensures { Gives (λ x. (x.0, x.1.now)) result (of.given_rows 1 tokens.now) }
 {
     let mut front = Items::new(alloc);
-    let mut rest = tokens;
+    let mut rest = Rest::new(tokens);
     for earlier in 0..tokens.len() {
-        if !next_is_word(b"given".as_slice(), rest) {
-            return Ok((front, rest));
+        let left = rest.tokens();
+        if !next_is_word(b"given".as_slice(), left) {
+            return Ok((front, left));
         }
-        let (row, after) = given_row(alloc, earlier as u64 + 1, rest)?;
+        let (row, after) = given_row(alloc, earlier as u64 + 1, left)?;
         front.push(row)?;
-        rest = after;
+        rest = Rest::new(after);
     }
-    Ok((front, rest))
+    Ok((front, rest.tokens()))
 }
 
 /// A kept row of that number or a greater one.
-fn kept_row<'a>(
+fn kept_row<'t, 'a>(
     alloc: Global,
     sig: &Signature,
     least: u64,
-    tokens: &'a [Token],
-) -> Result<(KeptRow, &'a [Token]), Stop>
+    tokens: &'t [Token<'a>],
+) -> Result<(KeptRow, &'t [Token<'a>]), Stop>
     requires { least < 2 ^ 64 - 1 }
     ensures value { Gives (λ x. (x.0, x.1.now)) result (clipped_kept_row sig.now least tokens.now) }
     ensures small { IfOk result (λ x. x.0.number < 2 ^ 32) }
@@ -97,30 +105,34 @@ fn kept_row<'a>(
 }
 
 /// The kept rows, whose numbers rise.
-fn kept_rows<'a>(
+fn kept_rows<'t, 'a>(
     alloc: Global,
     sig: &Signature,
-    tokens: &'a [Token],
-) -> Result<(Items<KeptRow>, &'a [Token]), Stop>
+    tokens: &'t [Token<'a>],
+) -> Result<(Items<KeptRow>, &'t [Token<'a>]), Stop>
     ensures { Gives (λ x. (x.0, x.1.now)) result (seen_by (map clipped_kept) (of.kept_rows sig.now 0 tokens.now)) }
 {
     let mut front = Items::new(alloc);
-    let mut rest = tokens;
+    let mut rest = Rest::new(tokens);
     let mut least: u64 = 0;
     for _ in 0..tokens.len() {
-        if !next_is_word(b"kept".as_slice(), rest) {
-            return Ok((front, rest));
+        let left = rest.tokens();
+        if !next_is_word(b"kept".as_slice(), left) {
+            return Ok((front, left));
         }
-        let (row, after) = kept_row(alloc, sig, least, rest)?;
+        let (row, after) = kept_row(alloc, sig, least, left)?;
         least = u64::from(row.number) + 1;
         front.push(row)?;
-        rest = after;
+        rest = Rest::new(after);
     }
-    Ok((front, rest))
+    Ok((front, rest.tokens()))
 }
 
 /// How the finder of that number ended.
-fn finder_row(finder: u64, tokens: &[Token]) -> Result<(FinderEnd, &[Token]), Stop>
+fn finder_row<'t, 'a>(
+    finder: u64,
+    tokens: &'t [Token<'a>],
+) -> Result<(FinderEnd, &'t [Token<'a>]), Stop>
     requires { finder < 2 ^ 64 - 1 }
     ensures { Gives (λ x. (x.0, x.1.now)) result (of.a_finder_row finder tokens.now) }
 {
@@ -132,45 +144,47 @@ fn finder_row(finder: u64, tokens: &[Token]) -> Result<(FinderEnd, &[Token]), St
 }
 
 /// How each of so many finders ended.
-fn finder_rows(
+fn finder_rows<'t, 'a>(
     alloc: Global,
     count: usize,
-    tokens: &[Token],
-) -> Result<(Items<FinderEnd>, &[Token]), Stop>
+    tokens: &'t [Token<'a>],
+) -> Result<(Items<FinderEnd>, &'t [Token<'a>]), Stop>
     ensures { Gives (λ x. (x.0, x.1.now)) result (counted of.a_finder_row (length tokens.now) 1 count tokens.now) }
 {
     let mut front = Items::new(alloc);
-    let mut rest = tokens;
+    let mut rest = Rest::new(tokens);
     for earlier in 0..tokens.len() {
+        let left = rest.tokens();
         if earlier == count {
-            return Ok((front, rest));
+            return Ok((front, left));
         }
-        let (end, after) = finder_row(earlier as u64 + 1, rest)?;
+        let (end, after) = finder_row(earlier as u64 + 1, left)?;
         front.push(end)?;
-        rest = after;
+        rest = Rest::new(after);
     }
+    let left = rest.tokens();
     if tokens.len() == count {
-        Ok((front, rest))
+        Ok((front, left))
     } else {
-        Err(stop_at(rest))
+        Err(stop_at(left))
     }
 }
 
-fn given_limit(tokens: &[Token]) -> Result<(Outcome, &[Token]), Stop>
+fn given_limit<'t, 'a>(tokens: &'t [Token<'a>]) -> Result<(Outcome, &'t [Token<'a>]), Stop>
     ensures { Gives (λ x. (x.0, x.1.now)) result (of.with_number (λ n. GivenLimit n) tokens.now) }
 {
     let (number, rest) = row_number(tokens)?;
     Ok((Outcome::GivenLimit(number), rest))
 }
 
-fn kept_limit(tokens: &[Token]) -> Result<(Outcome, &[Token]), Stop>
+fn kept_limit<'t, 'a>(tokens: &'t [Token<'a>]) -> Result<(Outcome, &'t [Token<'a>]), Stop>
     ensures { Gives (λ x. (x.0, x.1.now)) result (of.with_number (λ n. KeptLimit n) tokens.now) }
 {
     let (number, rest) = row_number(tokens)?;
     Ok((Outcome::KeptLimit(number), rest))
 }
 
-fn work_limit(tokens: &[Token]) -> Result<(Outcome, &[Token]), Stop>
+fn work_limit<'t, 'a>(tokens: &'t [Token<'a>]) -> Result<(Outcome, &'t [Token<'a>]), Stop>
     ensures { Gives (λ x. (x.0, x.1.now)) result (of.with_number (λ n. WorkLimit n) tokens.now) }
 {
     let (number, rest) = row_number(tokens)?;
@@ -178,11 +192,10 @@ fn work_limit(tokens: &[Token]) -> Result<(Outcome, &[Token]), Stop>
 }
 
 /// How the run ended, by the word that names it.
-fn an_outcome(tokens: &[Token]) -> Result<(Outcome, &[Token]), Stop>
+fn an_outcome<'t, 'a>(tokens: &'t [Token<'a>]) -> Result<(Outcome, &'t [Token<'a>]), Stop>
     ensures { Gives (λ x. (x.0, x.1.now)) result (of.an_outcome tokens.now) }
 {
     let (_, name, rest) = a_word(tokens)?;
-    let name = name.as_slice();
     if name == b"proof".as_slice() {
         Ok((Outcome::Proof, rest))
     } else if name == b"sos_empty".as_slice() {
@@ -199,7 +212,7 @@ fn an_outcome(tokens: &[Token]) -> Result<(Outcome, &[Token]), Stop>
 }
 
 /// How the run ended.
-fn end_row(tokens: &[Token]) -> Result<(Outcome, &[Token]), Stop>
+fn end_row<'t, 'a>(tokens: &'t [Token<'a>]) -> Result<(Outcome, &'t [Token<'a>]), Stop>
     ensures { Gives (λ x. (x.0, x.1.now)) result (of.an_end_row tokens.now) }
 {
     let rest = the_word(b"end".as_slice(), tokens)?;
@@ -209,12 +222,12 @@ fn end_row(tokens: &[Token]) -> Result<(Outcome, &[Token]), Stop>
 }
 
 /// Given rows, kept rows, a finder row for each list, and the outcome.
-pub fn read_turns<'a>(
+pub fn read_turns<'t, 'a>(
     alloc: Global,
     sig: &Signature,
     lists: usize,
-    tokens: &'a [Token],
-) -> Result<(Turns, &'a [Token]), Stop>
+    tokens: &'t [Token<'a>],
+) -> Result<(Turns, &'t [Token<'a>]), Stop>
     ensures { Gives (λ x. (turns_of x.0, x.1.now)) result (seen_by clipped_turns (whole.turns sig.now lists tokens.now)) }
 {
     let (given, rest) = given_rows(alloc, tokens)?;
@@ -231,7 +244,7 @@ pub fn read_turns<'a>(
 }
 
 /// The mark of the line of that number.
-fn mark_row(line: u64, tokens: &[Token]) -> Result<(MarkRow, &[Token]), Stop>
+fn mark_row<'t, 'a>(line: u64, tokens: &'t [Token<'a>]) -> Result<(MarkRow, &'t [Token<'a>]), Stop>
     requires { line < 2 ^ 64 - 1 }
     ensures { Gives (λ x. (x.0, x.1.now)) result (of.a_mark_row line tokens.now) }
 {
@@ -244,26 +257,28 @@ fn mark_row(line: u64, tokens: &[Token]) -> Result<(MarkRow, &[Token]), Stop>
 }
 
 /// The marks of so many lines.
-pub fn mark_rows(
+pub fn mark_rows<'t, 'a>(
     alloc: Global,
     count: usize,
-    tokens: &[Token],
-) -> Result<(Items<MarkRow>, &[Token]), Stop>
+    tokens: &'t [Token<'a>],
+) -> Result<(Items<MarkRow>, &'t [Token<'a>]), Stop>
     ensures { Gives (λ x. (x.0, x.1.now)) result (counted of.a_mark_row (length tokens.now) 1 count tokens.now) }
 {
     let mut front = Items::new(alloc);
-    let mut rest = tokens;
+    let mut rest = Rest::new(tokens);
     for earlier in 0..tokens.len() {
+        let left = rest.tokens();
         if earlier == count {
-            return Ok((front, rest));
+            return Ok((front, left));
         }
-        let (mark, after) = mark_row(earlier as u64 + 1, rest)?;
+        let (mark, after) = mark_row(earlier as u64 + 1, left)?;
         front.push(mark)?;
-        rest = after;
+        rest = Rest::new(after);
     }
+    let left = rest.tokens();
     if tokens.len() == count {
-        Ok((front, rest))
+        Ok((front, left))
     } else {
-        Err(stop_at(rest))
+        Err(stop_at(left))
     }
 }

@@ -16,7 +16,7 @@ use crate::words::numbers;
 use sc_interp::{Tables, TablesError};
 use sc_reading::{InputKind, Sign, Token};
 use sc_run_written::VersionText;
-use sc_scan::{Stop, next_is_word, the_sign, the_word};
+use sc_scan::{Rest, Stop, next_is_word, the_sign, the_word};
 use sc_term::Signature;
 use sqlite_items::Items;
 use std::alloc::Global;
@@ -46,11 +46,11 @@ pub struct PlacedVersion {
 
 /// Tables of the size that is written, every entry 0. They are too many where they would have more than 1,048,576
 /// entries: none is made then.
-fn read_size<'a>(
+fn read_size<'t, 'a>(
     alloc: Global,
     sig: &Signature,
-    tokens: &'a [Token],
-) -> Result<(Tables, &'a [Token]), Stop>
+    tokens: &'t [Token<'a>],
+) -> Result<(Tables, &'t [Token<'a>]), Stop>
     ensures value { Gives (λ x. (x.0.size, x.1.now)) result (of.a_size sig.now tokens.now) }
     ensures empty { IfOk result (λ x. x.0 ≡ zeros sig.now x.0.size) }
 {
@@ -70,13 +70,13 @@ fn place_of(next: Next, finder: u32) -> u64
 }
 
 /// The row of the next version of the finder, or of the first of a later one.
-fn version_row<'a>(
+fn version_row<'t, 'a>(
     alloc: Global,
     sig: &Signature,
     lists: u32,
     next: Next,
-    tokens: &'a [Token],
-) -> Result<(VersionRow, &'a [Token]), Stop>
+    tokens: &'t [Token<'a>],
+) -> Result<(VersionRow, &'t [Token<'a>]), Stop>
     requires { next.place ≤ 2 ^ 32 }
     ensures finder { IfOk result (λ x. (next.finder ≤ x.0.finder) × (x.0.finder ≤ lists)) }
     ensures place { IfOk result (λ x. x.0.place < 2 ^ 32) }
@@ -99,7 +99,10 @@ fn version_row<'a>(
 }
 
 /// The numbers of the input clauses that a version makes true.
-fn claims(alloc: Global, tokens: &[Token]) -> Result<(Items<u32>, &[Token]), Stop>
+fn claims<'t, 'a>(
+    alloc: Global,
+    tokens: &'t [Token<'a>],
+) -> Result<(Items<u32>, &'t [Token<'a>]), Stop>
     ensures { Gives (λ x. (x.0, x.1.now)) result (of.claims tokens.now) }
 {
     let rest = the_word(b"claims".as_slice(), tokens)?;
@@ -107,12 +110,12 @@ fn claims(alloc: Global, tokens: &[Token]) -> Result<(Items<u32>, &[Token]), Sto
 }
 
 /// What stands behind the row of a version.
-fn version_behind<'a>(
+fn version_behind<'t, 'a>(
     alloc: Global,
     sig: &Signature,
     tables: Tables,
-    tokens: &'a [Token],
-) -> Result<(VersionText, &'a [Token]), Stop>
+    tokens: &'t [Token<'a>],
+) -> Result<(VersionText, &'t [Token<'a>]), Stop>
     requires { tables ≡ zeros sig.now tables.size }
     ensures { Gives (λ x. (version_value x.0, x.1.now)) result (of.version_behind sig.now tables.size tokens.now) }
 {
@@ -130,13 +133,13 @@ fn version_behind<'a>(
 }
 
 /// A version.
-fn version<'a>(
+fn version<'t, 'a>(
     alloc: Global,
     sig: &Signature,
     lists: u32,
     next: Next,
-    tokens: &'a [Token],
-) -> Result<(PlacedVersion, &'a [Token]), Stop>
+    tokens: &'t [Token<'a>],
+) -> Result<(PlacedVersion, &'t [Token<'a>]), Stop>
     requires { next.place ≤ 2 ^ 32 }
     ensures finder { IfOk result (λ x. (next.finder ≤ x.0.finder) × (x.0.finder ≤ lists)) }
     ensures place { IfOk result (λ x. x.0.place < 2 ^ 32) }
@@ -184,12 +187,12 @@ fn empty_lists(alloc: Global, count: u32) -> Result<Vec<Items<VersionText>>, Sto
 }
 
 /// The versions of each of so many finders.
-pub fn read_lists<'a>(
+pub fn read_lists<'t, 'a>(
     alloc: Global,
     sig: &Signature,
     count: u32,
-    tokens: &'a [Token],
-) -> Result<(Items<Items<VersionText>>, &'a [Token]), Stop>
+    tokens: &'t [Token<'a>],
+) -> Result<(Items<Items<VersionText>>, &'t [Token<'a>]), Stop>
     requires { count ≤ 8 }
     ensures { Gives (λ x. (map (map version_value) x.0, x.1.now)) result (whole.version_lists sig.now count tokens.now) }
 {
@@ -198,18 +201,19 @@ pub fn read_lists<'a>(
         finder: 1,
         place: 0,
     };
-    let mut rest = tokens;
+    let mut rest = Rest::new(tokens);
     for _ in 0..tokens.len() {
-        if !next_is_word(b"version".as_slice(), rest) {
-            return Ok((Items::from_vec(lists), rest));
+        let left = rest.tokens();
+        if !next_is_word(b"version".as_slice(), left) {
+            return Ok((Items::from_vec(lists), left));
         }
-        let (placed, after) = version(alloc, sig, count, next, rest)?;
+        let (placed, after) = version(alloc, sig, count, next, left)?;
         next = Next {
             finder: placed.finder,
             place: u64::from(placed.place) + 1,
         };
         put(lists.as_mut_slice(), placed)?;
-        rest = after;
+        rest = Rest::new(after);
     }
-    Ok((Items::from_vec(lists), rest))
+    Ok((Items::from_vec(lists), rest.tokens()))
 }

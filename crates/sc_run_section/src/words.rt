@@ -12,12 +12,12 @@ use sc_interp::{Truth, VersionName};
 use sc_reading::{Sign, Token};
 use sc_rules::Cause;
 use sc_run_written::FinderEnd;
-use sc_scan::{Stop, next_is_word, stop_at, the_sign, the_word};
+use sc_scan::{Rest, Stop, next_is_word, stop_at, the_sign, the_word};
 use sqlite_items::Items;
 use std::alloc::Global;
 
 /// Why a clause was given.
-pub fn a_cause(tokens: &[Token]) -> Result<(Cause, &[Token]), Stop>
+pub fn a_cause<'t, 'a>(tokens: &'t [Token<'a>]) -> Result<(Cause, &'t [Token<'a>]), Stop>
     ensures { Gives (λ x. (x.0, x.1.now)) result (of.a_cause tokens.now) }
 {
     if next_is_word(b"age".as_slice(), tokens) {
@@ -35,7 +35,7 @@ pub fn a_cause(tokens: &[Token]) -> Result<(Cause, &[Token]), Stop>
 }
 
 /// The mark of a clause.
-pub fn a_truth(tokens: &[Token]) -> Result<(Truth, &[Token]), Stop>
+pub fn a_truth<'t, 'a>(tokens: &'t [Token<'a>]) -> Result<(Truth, &'t [Token<'a>]), Stop>
     ensures { Gives (λ x. (x.0, x.1.now)) result (of.a_truth tokens.now) }
 {
     if next_is_word(b"true".as_slice(), tokens) {
@@ -53,7 +53,7 @@ pub fn a_truth(tokens: &[Token]) -> Result<(Truth, &[Token]), Stop>
 }
 
 /// How a finder ended.
-pub fn an_end(tokens: &[Token]) -> Result<(FinderEnd, &[Token]), Stop>
+pub fn an_end<'t, 'a>(tokens: &'t [Token<'a>]) -> Result<(FinderEnd, &'t [Token<'a>]), Stop>
     ensures { Gives (λ x. (x.0, x.1.now)) result (of.an_end tokens.now) }
 {
     if next_is_word(b"done".as_slice(), tokens) {
@@ -74,7 +74,9 @@ pub fn an_end(tokens: &[Token]) -> Result<(FinderEnd, &[Token]), Stop>
 }
 
 /// Finder and place of a version.
-pub fn a_version_name(tokens: &[Token]) -> Result<(VersionName, &[Token]), Stop>
+pub fn a_version_name<'t, 'a>(
+    tokens: &'t [Token<'a>],
+) -> Result<(VersionName, &'t [Token<'a>]), Stop>
     ensures { Gives (λ x. (x.0, x.1.now)) result (of.a_version_name tokens.now) }
 {
     let (finder, rest) = row_number(tokens)?;
@@ -99,34 +101,45 @@ fn no_digits(tokens: &[Token]) -> bool
     ensures { result ≡ of.no_digits tokens.now }
 {
     match tokens {
-        [Token::Word(_, text), ..] => !are_digits(text.as_slice()),
-        _ => true,
+        [] => true,
+        [token, ..] => match token {
+            Token::Word(_, text) => !are_digits(text.as_slice()),
+            _ => true,
+        },
     }
 }
 
 /// Numbers, as many as there are.
-fn some_numbers(alloc: Global, tokens: &[Token]) -> Result<(Items<u32>, &[Token]), Stop>
+fn some_numbers<'t, 'a>(
+    alloc: Global,
+    tokens: &'t [Token<'a>],
+) -> Result<(Items<u32>, &'t [Token<'a>]), Stop>
     ensures { Gives (λ x. (x.0, x.1.now)) result (spec.repeated of.no_digits of.a_row_number (length tokens.now) tokens.now) }
 {
     let mut front = Items::new(alloc);
-    let mut rest = tokens;
+    let mut rest = Rest::new(tokens);
     for _ in 0..tokens.len() {
-        if no_digits(rest) {
-            return Ok((front, rest));
+        let left = rest.tokens();
+        if no_digits(left) {
+            return Ok((front, left));
         }
-        let (number, after) = row_number(rest)?;
+        let (number, after) = row_number(left)?;
         front.push(number)?;
-        rest = after;
+        rest = Rest::new(after);
     }
-    if no_digits(rest) {
-        Ok((front, rest))
+    let left = rest.tokens();
+    if no_digits(left) {
+        Ok((front, left))
     } else {
-        Err(stop_at(rest))
+        Err(stop_at(left))
     }
 }
 
 /// Numbers up to a full stop, and that.
-pub fn numbers(alloc: Global, tokens: &[Token]) -> Result<(Items<u32>, &[Token]), Stop>
+pub fn numbers<'t, 'a>(
+    alloc: Global,
+    tokens: &'t [Token<'a>],
+) -> Result<(Items<u32>, &'t [Token<'a>]), Stop>
     ensures { Gives (λ x. (x.0, x.1.now)) result (of.numbers tokens.now) }
 {
     let (numbers, rest) = some_numbers(alloc, tokens)?;

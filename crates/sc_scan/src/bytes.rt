@@ -22,7 +22,7 @@ pub fn is_word_byte(byte: u8) -> bool
 
 /// The token of one byte that is no part of a word: a sign, or a refused byte, which is no text where it isn't
 /// printable.
-pub fn single(at: u64, byte: u8) -> Token
+pub fn single<'a>(at: u64, byte: u8) -> Token<'a>
     ensures { result ≡ spec.single sign_of at byte }
 {
     match byte {

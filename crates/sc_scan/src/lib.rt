@@ -6,12 +6,14 @@
 mod bytes;
 mod next;
 mod pieces;
+mod rest;
 mod scanner;
 mod stop;
 
 pub use next::{
     a_name, a_word, is_sign, is_word, next_is_sign, next_is_word, stop_at, the_sign, the_word,
 };
+pub use rest::Rest;
 pub use scanner::{scan, scan_problem};
 pub use stop::Stop;
 

@@ -1,15 +1,14 @@
 //! Looks at the next token, and readers of one. Each is equal to the production of its name.
 
-ghost use Rattle.std.specs.Prelude.{◌≡◌, ◌+◌, length, codes};
+ghost use Rattle.std.specs.Prelude.{◌≡◌, ◌+◌, ◌∷◌, List, length, codes};
+ghost use Rattle.sc_reading.specs.declared.token.Token.{Token};
 ghost use Rattle.sc_reading.specs.Token as of;
 ghost use Rattle.sc_reading.specs.Reader as spec;
 ghost use Rattle.sc_scan.specs.Told.{Gives};
 ghost use Rattle.sc_scan.specs.declared.stop.Stop.TheVariants.{At};
 
 use crate::stop::Stop;
-use sc_reading::{InputKind, Sign, Token};
-use sqlite_items::Items;
-use std::alloc::Global;
+use sc_reading::{InputKind, Lexeme, Sign, Token};
 
 fn sign_number(sign: Sign) -> u8
     ensures { result ≡ of.sign_number sign }
@@ -47,14 +46,23 @@ pub fn is_word(name: &[u8], token: &Token) -> bool
     }
 }
 
+/// The fault of a token that isn't allowed: its own kind, or unexpected.
+fn kind_at(token: &Token) -> InputKind
+    ensures { (rest : List Token) → result ≡ spec.kind_of (token.now ∷ rest) }
+{
+    match token {
+        Token::Refused(_, kind) => *kind,
+        _ => InputKind::Unexpected,
+    }
+}
+
 /// The fault where the next token isn't allowed: its own kind, or unexpected, or truncated at the end.
 pub fn stop_at(tokens: &[Token]) -> Stop
     ensures { result ≡ At (length tokens.now) (spec.kind_of tokens.now) }
 {
     let kind = match tokens {
         [] => InputKind::Truncated,
-        [Token::Refused(_, kind), ..] => *kind,
-        [_, ..] => InputKind::Unexpected,
+        [token, ..] => kind_at(token),
     };
     Stop::At(tokens.len(), kind)
 }
@@ -80,7 +88,7 @@ pub fn next_is_word(name: &[u8], tokens: &[Token]) -> bool
 }
 
 /// What stands behind this sign.
-pub fn the_sign(sign: Sign, tokens: &[Token]) -> Result<&[Token], Stop>
+pub fn the_sign<'t, 'a>(sign: Sign, tokens: &'t [Token<'a>]) -> Result<&'t [Token<'a>], Stop>
     ensures { Gives (λ x. (tt, x.now)) result (spec.the_sign sign tokens.now) }
 {
     match tokens {
@@ -96,28 +104,31 @@ pub fn the_sign(sign: Sign, tokens: &[Token]) -> Result<&[Token], Stop>
 }
 
 /// A word, where it begins, and what stands behind it.
-pub fn a_word(tokens: &[Token]) -> Result<(u64, &Items<u8>, &[Token]), Stop>
+pub fn a_word<'t, 'a>(tokens: &'t [Token<'a>]) -> Result<(u64, &'a [u8], &'t [Token<'a>]), Stop>
     ensures { Gives (λ x. (record { at = x.0; text = x.1.now }, x.2.now)) result (spec.a_word tokens.now) }
 {
     match tokens {
-        [Token::Word(at, text), rest @ ..] => Ok((*at, text, rest)),
-        _ => Err(stop_at(tokens)),
+        [] => Err(stop_at(tokens)),
+        [token, rest @ ..] => match token {
+            Token::Word(at, text) => Ok((*at, text.as_slice(), rest)),
+            _ => Err(stop_at(tokens)),
+        },
     }
 }
 
 /// What stands behind this word.
-pub fn the_word<'a>(name: &[u8], tokens: &'a [Token]) -> Result<&'a [Token], Stop>
+pub fn the_word<'t, 'a>(name: &[u8], tokens: &'t [Token<'a>]) -> Result<&'t [Token<'a>], Stop>
     ensures { Gives (λ x. (tt, x.now)) result (spec.the_word name.now tokens.now) }
 {
     match tokens {
-        [Token::Word(_, text), rest @ ..] => {
-            if name == text.as_slice() {
+        [] => Err(stop_at(tokens)),
+        [token, rest @ ..] => {
+            if is_word(name, token) {
                 Ok(rest)
             } else {
                 Err(stop_at(tokens))
             }
         }
-        _ => Err(stop_at(tokens)),
     }
 }
 
@@ -129,17 +140,20 @@ pub fn is_falsum(text: &[u8]) -> bool
 }
 
 /// Any word but `$F`, where it begins, and what stands behind it.
-pub fn a_name(alloc: Global, tokens: &[Token]) -> Result<(u64, Items<u8>, &[Token]), Stop>
+pub fn a_name<'t, 'a>(tokens: &'t [Token<'a>]) -> Result<(u64, Lexeme<'a>, &'t [Token<'a>]), Stop>
     ensures { Gives (λ x. (record { at = x.0; text = x.1 }, x.2.now)) result (spec.a_name tokens.now) }
 {
     match tokens {
-        [Token::Word(at, text), rest @ ..] => {
-            if is_falsum(text.as_slice()) {
-                Err(stop_at(tokens))
-            } else {
-                Ok((*at, Items::from_slice(alloc, text.as_slice())?, rest))
+        [] => Err(stop_at(tokens)),
+        [token, rest @ ..] => match token {
+            Token::Word(at, text) => {
+                if is_falsum(text.as_slice()) {
+                    Err(stop_at(tokens))
+                } else {
+                    Ok((*at, Lexeme::new(text.as_slice()), rest))
+                }
             }
-        }
-        _ => Err(stop_at(tokens)),
+            _ => Err(stop_at(tokens)),
+        },
     }
 }

@@ -8,10 +8,7 @@ ghost use Rattle.sc_scan.specs.Rest.{tokens_of_rest, tokens_of_comment, in_front
 
 use crate::bytes::{is_white, is_word_byte, single};
 use crate::next::is_falsum;
-use sc_reading::{InputKind, Sign, Token};
-use sc_term::Mem;
-use sqlite_items::Items;
-use std::alloc::Global;
+use sc_reading::{InputKind, Lexeme, Sign, Token};
 
 /// What stands behind the comment that the bytes are in: its line feed, or nothing.
 #[tactic(auto, using(crate::proofs::Scanning::comments))]
@@ -51,13 +48,13 @@ fn has_dollar(word: &[u8]) -> bool
 }
 
 /// The token of a word. One that holds `$` is refused, but for `$F`.
-fn word_token(alloc: Global, at: u64, word: &[u8]) -> Mem<Token>
-    ensures { IfOk result (λ t. t ≡ spec.with_dollars_refused (of.Word at word.now)) }
+fn word_token<'a>(at: u64, word: &'a [u8]) -> Token<'a>
+    ensures { result ≡ spec.with_dollars_refused (of.Word at word.now) }
 {
     if has_dollar(word) && !is_falsum(word) {
-        Ok(Token::Refused(at, InputKind::Unsupported))
+        Token::Refused(at, InputKind::Unsupported)
     } else {
-        Ok(Token::Word(at, Items::from_slice(alloc, word)?))
+        Token::Word(at, Lexeme::new(word))
     }
 }
 
@@ -83,27 +80,26 @@ fn behind_unequal(byte: u8, others: &[u8]) -> Option<&[u8]>
 /// The first token of the last bytes of a text of `total` bytes, or none where they begin with white space or a
 /// comment, and the bytes behind it.
 #[tactic(auto, using(crate::proofs::Scanning::pieces))]
-pub fn next_token(alloc: Global, total: usize, rest: &[u8]) -> Mem<(Option<Token>, &[u8])>
+pub fn next_token<'a>(total: usize, rest: &'a [u8]) -> (Option<Token<'a>>, &'a [u8])
     requires within { length rest.now ≤ total }
     requires some { 0 < length rest.now }
-    ensures value { IfOk result (λ r. tokens_of_rest total rest.now ≡ in_front r.0 (tokens_of_rest total r.1.now)) }
-    ensures shorter { IfOk result (λ r. length r.1.now < length rest.now) }
+    ensures value { tokens_of_rest total rest.now ≡ in_front result.0 (tokens_of_rest total result.1.now) }
+    ensures shorter { length result.1.now < length rest.now }
 {
     let at = (total - rest.len()) as u64;
     let (byte, others) = split_first(rest);
     if is_word_byte(byte) {
         let (word, behind) = split_word(rest);
-        let token = word_token(alloc, at, word)?;
-        return Ok((Some(token), behind));
+        return (Some(word_token(at, word)), behind);
     }
     if is_white(byte) {
-        return Ok((None, others));
+        return (None, others);
     }
     if byte == b'%' {
-        return Ok((None, behind_comment(total, others)));
+        return (None, behind_comment(total, others));
     }
     match behind_unequal(byte, others) {
-        Some(behind) => Ok((Some(Token::Punctuation(at, Sign::Unequal)), behind)),
-        None => Ok((Some(single(at, byte)), others)),
+        Some(behind) => (Some(Token::Punctuation(at, Sign::Unequal)), behind),
+        None => (Some(single(at, byte)), others),
     }
 }

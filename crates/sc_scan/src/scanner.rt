@@ -12,8 +12,8 @@ use sqlite_items::Items;
 use std::alloc::Global;
 
 /// The token, refused where it is a `:` and that is none here.
-fn allowed(has_colon: bool, token: Token) -> Token
-    ensures { result ≡ token_as has_colon token }
+fn allowed<'a>(has_colon: bool, token: Token<'a>) -> Token<'a>
+    ensures { result ≡ token_as has_colon token.entry }
 {
     match token {
         Token::Punctuation(at, Sign::Colon) if !has_colon => {
@@ -24,7 +24,12 @@ fn allowed(has_colon: bool, token: Token) -> Token
 }
 
 #[tactic(auto, using(crate::proofs::Scanning::turns))]
-fn scan_with(alloc: Global, has_colon: bool, bytes: &[u8], from: usize) -> Mem<Items<Token>>
+fn scan_with<'a>(
+    alloc: Global,
+    has_colon: bool,
+    bytes: &'a [u8],
+    from: usize,
+) -> Mem<Items<Token<'a>>>
     requires { from ≤ length bytes.now }
     ensures { IfOk result (λ ts. ts ≡ map (token_as has_colon) (tokens_behind from bytes.now)) }
 {
@@ -34,7 +39,7 @@ fn scan_with(alloc: Global, has_colon: bool, bytes: &[u8], from: usize) -> Mem<I
     // moved when it grows.
     let mut tokens = Items::from_vec(Vec::with_capacity(alloc, rest.len())?);
     while !rest.is_empty() {
-        let (found, behind) = next_token(alloc, total, rest)?;
+        let (found, behind) = next_token(total, rest);
         if let Some(token) = found {
             tokens.push(allowed(has_colon, token))?;
         }
@@ -45,7 +50,7 @@ fn scan_with(alloc: Global, has_colon: bool, bytes: &[u8], from: usize) -> Mem<I
 
 /// The tokens of the bytes from one on, white space and comments left out, each with its byte. What makes no token
 /// stands as one that is refused, with the kind of that fault. Time and memory are in proportion to the bytes.
-pub fn scan(alloc: Global, bytes: &[u8], from: usize) -> Mem<Items<Token>>
+pub fn scan<'a>(alloc: Global, bytes: &'a [u8], from: usize) -> Mem<Items<Token<'a>>>
     requires { from ≤ length bytes.now }
     ensures { IfOk result (λ ts. ts ≡ tokens_behind from bytes.now) }
 {
@@ -53,7 +58,7 @@ pub fn scan(alloc: Global, bytes: &[u8], from: usize) -> Mem<Items<Token>>
 }
 
 /// The tokens of a problem, where `:` is none and refused.
-pub fn scan_problem(alloc: Global, bytes: &[u8]) -> Mem<Items<Token>>
+pub fn scan_problem<'a>(alloc: Global, bytes: &'a [u8]) -> Mem<Items<Token<'a>>>
     ensures { IfOk result (λ ts. ts ≡ problem_tokens bytes.now) }
 {
     scan_with(alloc, false, bytes, 0)

@@ -29,11 +29,11 @@ fn clause_from(alloc: Global, sig: &Signature, written: &[WrittenLiteral]) -> Me
 }
 
 /// A clause and its full stop. The number of a variable that is greater than 4,294,967,295 is answered as that.
-pub fn read_text_clause<'a>(
+pub fn read_text_clause<'t, 'a>(
     alloc: Global,
     sig: &Signature,
-    tokens: &'a [Token],
-) -> Result<(Clause, &'a [Token]), Stop>
+    tokens: &'t [Token<'a>],
+) -> Result<(Clause, &'t [Token<'a>]), Stop>
     ensures { Gives (λ x. (x.0, x.1.now)) result (seen_by clipped_clause (of.text_clause sig.now tokens.now)) }
 {
     let (written, rest) = read_clause(alloc, tokens)?;

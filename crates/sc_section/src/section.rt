@@ -11,7 +11,7 @@ use crate::number::the_number;
 use crate::step::read_step;
 use sc_data::Line;
 use sc_reading::{Sign, Token};
-use sc_scan::{Stop, next_is_word, stop_at, the_sign, the_word};
+use sc_scan::{Rest, Stop, next_is_word, stop_at, the_sign, the_word};
 use sc_term::Signature;
 use sqlite_items::Items;
 use std::alloc::Global;
@@ -21,12 +21,12 @@ const PROOF: &str = "proof";
 const END_OF_PROOF: &str = "end_of_proof";
 
 /// The line of this number: the number, a step, `:`, a clause and a full stop.
-fn read_line<'a>(
+fn read_line<'t, 'a>(
     alloc: Global,
     sig: &Signature,
     number: u64,
-    tokens: &'a [Token],
-) -> Result<(Line, &'a [Token]), Stop>
+    tokens: &'t [Token<'a>],
+) -> Result<(Line, &'t [Token<'a>]), Stop>
     requires { number < 2 ^ 64 - 1 }
     ensures { Gives (λ x. (x.0, x.1.now)) result (seen_by clipped_line (of.a_line sig.now number tokens.now)) }
 {
@@ -44,28 +44,29 @@ fn at_end_of_proof(tokens: &[Token]) -> bool
 }
 
 /// The lines up to `end_of_proof`, numbered from 1.
-fn read_lines<'a>(
+fn read_lines<'t, 'a>(
     alloc: Global,
     sig: &Signature,
-    tokens: &'a [Token],
-) -> Result<(Items<Line>, &'a [Token]), Stop>
+    tokens: &'t [Token<'a>],
+) -> Result<(Items<Line>, &'t [Token<'a>]), Stop>
     ensures { Gives (λ x. (x.0, x.1.now)) result (clipped_lines (of.lines_within (length tokens.now) sig.now 1 tokens.now)) }
 {
     let mut front = Items::new(alloc);
-    let mut rest = tokens;
+    let mut rest = Rest::new(tokens);
     for earlier in 0..tokens.len() {
-        if at_end_of_proof(rest) {
-            return Ok((front, rest));
+        let left = rest.tokens();
+        if at_end_of_proof(left) {
+            return Ok((front, left));
         }
-        let (line, after) = read_line(alloc, sig, earlier as u64 + 1, rest)?;
+        let (line, after) = read_line(alloc, sig, earlier as u64 + 1, left)?;
         front.push(line)?;
-        rest = after;
+        rest = Rest::new(after);
     }
-    Err(stop_at(rest))
+    Err(stop_at(rest.tokens()))
 }
 
 /// A word and a full stop.
-pub fn the_heading<'a>(name: &[u8], tokens: &'a [Token]) -> Result<&'a [Token], Stop>
+pub fn the_heading<'t, 'a>(name: &[u8], tokens: &'t [Token<'a>]) -> Result<&'t [Token<'a>], Stop>
     ensures { Gives (λ x. (tt, x.now)) result (of.the_heading name.now tokens.now) }
 {
     let rest = the_word(name, tokens)?;
@@ -73,11 +74,11 @@ pub fn the_heading<'a>(name: &[u8], tokens: &'a [Token]) -> Result<&'a [Token], 
 }
 
 /// `proof.`, the lines and `end_of_proof.`, and what stands behind. Numbers are answered as in `read_section`.
-pub fn proof_section<'a>(
+pub fn proof_section<'t, 'a>(
     alloc: Global,
     sig: &Signature,
-    tokens: &'a [Token],
-) -> Result<(Items<Line>, &'a [Token]), Stop>
+    tokens: &'t [Token<'a>],
+) -> Result<(Items<Line>, &'t [Token<'a>]), Stop>
     ensures { Gives (λ x. (x.0, x.1.now)) result (clipped_lines (of.proof_section sig.now tokens.now)) }
 {
     let rest = the_heading(PROOF.as_bytes(), tokens)?;
@@ -89,11 +90,11 @@ pub fn proof_section<'a>(
 /// The lines of a proof section over these symbols, behind which nothing stands, and no tokens. A number of a step, of
 /// a path or of a variable that is greater than 4,294,967,295 is answered as that number. It stops for want of memory,
 /// or at the first token that `proof_section` doesn't allow, or that stands behind it.
-pub fn read_section<'a>(
+pub fn read_section<'t, 'a>(
     alloc: Global,
     sig: &Signature,
-    tokens: &'a [Token],
-) -> Result<(Items<Line>, &'a [Token]), Stop>
+    tokens: &'t [Token<'a>],
+) -> Result<(Items<Line>, &'t [Token<'a>]), Stop>
     ensures { Gives (λ x. (x.0, x.1.now)) result (clipped_lines (of.alone (of.proof_section sig.now tokens.now))) }
 {
     let (lines, rest) = proof_section(alloc, sig, tokens)?;

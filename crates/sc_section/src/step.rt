@@ -14,12 +14,12 @@ use crate::number::read_number;
 use crate::terms::read_terms;
 use sc_data::{Side, Step, Term};
 use sc_reading::{Sign, Token};
-use sc_scan::{Stop, a_word, next_is_sign, next_is_word, stop_at, the_sign, the_word};
+use sc_scan::{Rest, Stop, a_word, next_is_sign, next_is_word, stop_at, the_sign, the_word};
 use sc_term::Signature;
 use sqlite_items::Items;
 use std::alloc::Global;
 
-fn a_side(tokens: &[Token]) -> Result<(Side, &[Token]), Stop>
+fn a_side<'t, 'a>(tokens: &'t [Token<'a>]) -> Result<(Side, &'t [Token<'a>]), Stop>
     ensures { Gives (λ x. (x.0, x.1.now)) result (of.a_side tokens.now) }
 {
     if next_is_word(b"left".as_slice(), tokens) {
@@ -32,23 +32,32 @@ fn a_side(tokens: &[Token]) -> Result<(Side, &[Token]), Stop>
 }
 
 /// One or more numbers, at most `most`, with `,` between them.
-fn path(alloc: Global, most: usize, tokens: &[Token]) -> Result<(Items<u32>, &[Token]), Stop>
+fn path<'t, 'a>(
+    alloc: Global,
+    most: usize,
+    tokens: &'t [Token<'a>],
+) -> Result<(Items<u32>, &'t [Token<'a>]), Stop>
     ensures { Gives (λ x. (x.0, x.1.now)) result (seen_by (map clipped) (spec.separated Comma a_number most tokens.now)) }
 {
     let mut front = Items::new(alloc);
-    let mut rest = tokens;
+    let mut rest = Rest::new(tokens);
     for _ in 0..most {
-        let (number, after) = read_number(rest)?;
+        let left = rest.tokens();
+        let (number, after) = read_number(left)?;
         front.push(number)?;
         if !next_is_sign(Sign::Comma, after) {
             return Ok((front, after));
         }
-        rest = the_sign(Sign::Comma, after)?;
+        let next = the_sign(Sign::Comma, after)?;
+        rest = Rest::new(next);
     }
-    Err(stop_at(rest))
+    Err(stop_at(rest.tokens()))
 }
 
-fn bracketed_path(alloc: Global, tokens: &[Token]) -> Result<(Items<u32>, &[Token]), Stop>
+fn bracketed_path<'t, 'a>(
+    alloc: Global,
+    tokens: &'t [Token<'a>],
+) -> Result<(Items<u32>, &'t [Token<'a>]), Stop>
     ensures { Gives (λ x. (x.0, x.1.now)) result (seen_by (map clipped) (grammar.bracketed (spec.separated Comma a_number (length tokens.now)) tokens.now)) }
 {
     let rest = the_sign(Sign::Open, tokens)?;
@@ -57,11 +66,11 @@ fn bracketed_path(alloc: Global, tokens: &[Token]) -> Result<(Items<u32>, &[Toke
     Ok((path, rest))
 }
 
-fn bracketed_terms<'a>(
+fn bracketed_terms<'t, 'a>(
     alloc: Global,
     sig: &Signature,
-    tokens: &'a [Token],
-) -> Result<(Items<Term>, &'a [Token]), Stop>
+    tokens: &'t [Token<'a>],
+) -> Result<(Items<Term>, &'t [Token<'a>]), Stop>
     ensures { Gives (λ x. (x.0, x.1.now)) result (seen_by (map clipped_term) (grammar.bracketed (of.text_terms sig.now) tokens.now)) }
 {
     let rest = the_sign(Sign::Open, tokens)?;
@@ -70,18 +79,18 @@ fn bracketed_terms<'a>(
     Ok((terms, rest))
 }
 
-fn input_step(tokens: &[Token]) -> Result<(Step, &[Token]), Stop>
+fn input_step<'t, 'a>(tokens: &'t [Token<'a>]) -> Result<(Step, &'t [Token<'a>]), Stop>
     ensures { Gives (λ x. (x.0, x.1.now)) result (seen_by clipped_step (of.input_step tokens.now)) }
 {
     let (number, rest) = read_number(tokens)?;
     Ok((Step::Input(number), rest))
 }
 
-fn instance_step<'a>(
+fn instance_step<'t, 'a>(
     alloc: Global,
     sig: &Signature,
-    tokens: &'a [Token],
-) -> Result<(Step, &'a [Token]), Stop>
+    tokens: &'t [Token<'a>],
+) -> Result<(Step, &'t [Token<'a>]), Stop>
     ensures { Gives (λ x. (x.0, x.1.now)) result (seen_by clipped_step (of.instance_step sig.now tokens.now)) }
 {
     let (of, rest) = read_number(tokens)?;
@@ -89,7 +98,7 @@ fn instance_step<'a>(
     Ok((Step::Instance { of, terms }, rest))
 }
 
-fn resolve_step(tokens: &[Token]) -> Result<(Step, &[Token]), Stop>
+fn resolve_step<'t, 'a>(tokens: &'t [Token<'a>]) -> Result<(Step, &'t [Token<'a>]), Stop>
     ensures { Gives (λ x. (x.0, x.1.now)) result (seen_by clipped_step (of.resolve_step tokens.now)) }
 {
     let (left, rest) = read_number(tokens)?;
@@ -105,7 +114,7 @@ fn resolve_step(tokens: &[Token]) -> Result<(Step, &[Token]), Stop>
     Ok((step, rest))
 }
 
-fn merge_step(tokens: &[Token]) -> Result<(Step, &[Token]), Stop>
+fn merge_step<'t, 'a>(tokens: &'t [Token<'a>]) -> Result<(Step, &'t [Token<'a>]), Stop>
     ensures { Gives (λ x. (x.0, x.1.now)) result (seen_by clipped_step (of.of_line_and_literal (λ j a. Merge j a) tokens.now)) }
 {
     let (of, rest) = read_number(tokens)?;
@@ -113,7 +122,7 @@ fn merge_step(tokens: &[Token]) -> Result<(Step, &[Token]), Stop>
     Ok((Step::Merge { of, lit }, rest))
 }
 
-fn flip_step(tokens: &[Token]) -> Result<(Step, &[Token]), Stop>
+fn flip_step<'t, 'a>(tokens: &'t [Token<'a>]) -> Result<(Step, &'t [Token<'a>]), Stop>
     ensures { Gives (λ x. (x.0, x.1.now)) result (seen_by clipped_step (of.of_line_and_literal (λ j a. Flip j a) tokens.now)) }
 {
     let (of, rest) = read_number(tokens)?;
@@ -121,7 +130,10 @@ fn flip_step(tokens: &[Token]) -> Result<(Step, &[Token]), Stop>
     Ok((Step::Flip { of, lit }, rest))
 }
 
-fn para_step(alloc: Global, tokens: &[Token]) -> Result<(Step, &[Token]), Stop>
+fn para_step<'t, 'a>(
+    alloc: Global,
+    tokens: &'t [Token<'a>],
+) -> Result<(Step, &'t [Token<'a>]), Stop>
     ensures { Gives (λ x. (x.0, x.1.now)) result (seen_by clipped_step (of.para_step tokens.now)) }
 {
     let (from, rest) = read_number(tokens)?;
@@ -142,15 +154,14 @@ fn para_step(alloc: Global, tokens: &[Token]) -> Result<(Step, &[Token]), Stop>
 }
 
 /// A step, by the word that names it.
-pub fn read_step<'a>(
+pub fn read_step<'t, 'a>(
     alloc: Global,
     sig: &Signature,
-    tokens: &'a [Token],
-) -> Result<(Step, &'a [Token]), Stop>
+    tokens: &'t [Token<'a>],
+) -> Result<(Step, &'t [Token<'a>]), Stop>
     ensures { Gives (λ x. (x.0, x.1.now)) result (seen_by clipped_step (of.a_step sig.now tokens.now)) }
 {
     let (_, name, rest) = a_word(tokens)?;
-    let name = name.as_slice();
     if name == b"input".as_slice() {
         input_step(rest)
     } else if name == b"instance".as_slice() {

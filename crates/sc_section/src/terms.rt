@@ -17,7 +17,7 @@ use sc_data::Term;
 use sc_grammar::read_side;
 use sc_problem::{Numbering, terms_from};
 use sc_reading::{Occurrence, Sign, Token};
-use sc_scan::{Stop, next_is_sign, stop_at, the_sign};
+use sc_scan::{Rest, Stop, next_is_sign, stop_at, the_sign};
 use sc_term::{OutOfMemory, Signature};
 use sqlite_items::Items;
 use std::alloc::Global;
@@ -70,11 +70,11 @@ pub fn memory(_: OutOfMemory) -> Stop
 }
 
 /// The terms of a side: one.
-fn terms_of_side<'a>(
+fn terms_of_side<'t, 'a>(
     alloc: Global,
     sig: &Signature,
-    tokens: &'a [Token],
-) -> Result<(Items<Term>, &'a [Token]), Stop>
+    tokens: &'t [Token<'a>],
+) -> Result<(Items<Term>, &'t [Token<'a>]), Stop>
     ensures { Gives (λ x. (x.0, x.1.now)) result (seen_by (terms_of clipped_variable sig.now) (grammar.side tokens.now)) }
 {
     let mut names = Items::new(alloc);
@@ -84,32 +84,34 @@ fn terms_of_side<'a>(
 }
 
 /// One or more, with `,` between them.
-fn some_terms<'a>(
+fn some_terms<'t, 'a>(
     alloc: Global,
     sig: &Signature,
-    tokens: &'a [Token],
-) -> Result<(Items<Term>, &'a [Token]), Stop>
+    tokens: &'t [Token<'a>],
+) -> Result<(Items<Term>, &'t [Token<'a>]), Stop>
     ensures { Gives (λ x. (x.0, x.1.now)) result (seen_by (flat_map (terms_of clipped_variable sig.now)) (spec.separated Comma grammar.side (length tokens.now) tokens.now)) }
 {
     let mut front = Items::new(alloc);
-    let mut rest = tokens;
+    let mut rest = Rest::new(tokens);
     for _ in 0..tokens.len() {
-        let (terms, after) = terms_of_side(alloc, sig, rest)?;
+        let left = rest.tokens();
+        let (terms, after) = terms_of_side(alloc, sig, left)?;
         front.append(terms)?;
         if !next_is_sign(Sign::Comma, after) {
             return Ok((front, after));
         }
-        rest = the_sign(Sign::Comma, after)?;
+        let next = the_sign(Sign::Comma, after)?;
+        rest = Rest::new(next);
     }
-    Err(stop_at(rest))
+    Err(stop_at(rest.tokens()))
 }
 
 /// The terms of an `instance` step: none before `)`, or sides with `,` between them.
-pub fn read_terms<'a>(
+pub fn read_terms<'t, 'a>(
     alloc: Global,
     sig: &Signature,
-    tokens: &'a [Token],
-) -> Result<(Items<Term>, &'a [Token]), Stop>
+    tokens: &'t [Token<'a>],
+) -> Result<(Items<Term>, &'t [Token<'a>]), Stop>
     ensures { Gives (λ x. (x.0, x.1.now)) result (seen_by (map clipped_term) (of.text_terms sig.now tokens.now)) }
 {
     if next_is_sign(Sign::Close, tokens) {

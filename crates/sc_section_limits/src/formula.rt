@@ -1,6 +1,6 @@
 //! What is kept of a clause or term so far.
 
-ghost use Rattle.std.specs.Prelude.{◌≡◌, ◌≤◌, ◌<◌, ◌+◌, ◌++◌, ◌∷◌, [], ℕ, List, Option, Some, IfOk, OnOk, reverse, slice_get, option_map, option_and_then};
+ghost use Rattle.std.specs.Prelude.{◌≡◌, ◌≤◌, ◌<◌, ◌+◌, ◌++◌, ◌∷◌, [], ℕ, List, Option, Some, OnOk, reverse, slice_get, option_map, option_and_then};
 ghost use Rattle.sc_reading.specs.declared.token.Token.{Token};
 ghost use Rattle.sc_limits.specs.Counted.{Counted};
 ghost use Rattle.sc_section_limits.specs.Names as spec;
@@ -52,16 +52,19 @@ impl Ended {
     }
 }
 
-fn word_at(tokens: &[Token], number: usize) -> Option<(u64, &[u8])>
+fn word_at<'a>(tokens: &[Token<'a>], number: usize) -> Option<(u64, &'a [u8])>
     ensures { option_map (λ w. record { at = w.0; text = w.1.now }) result ≡ spec.word_at tokens.now number }
 {
     match tokens.get(number) {
-        Some(Token::Word(at, text)) => Some((*at, text.as_slice())),
-        _ => None,
+        Some(token) => match token {
+            Token::Word(at, text) => Some((*at, text.as_slice())),
+            _ => None,
+        },
+        None => None,
     }
 }
 
-fn word_alone(tokens: &[Token], number: usize) -> Option<EndedName>
+fn word_alone<'a>(tokens: &[Token<'a>], number: usize) -> Option<EndedName<'a>>
     ensures { option_map spec.as_occurrence result ≡ option_and_then spec.name_alone (spec.word_at tokens.now number) }
 {
     match word_at(tokens, number) {
@@ -76,7 +79,7 @@ fn word_alone(tokens: &[Token], number: usize) -> Option<EndedName>
     }
 }
 
-fn word_applied(tokens: &[Token], number: usize, arity: u8) -> Option<EndedName>
+fn word_applied<'a>(tokens: &[Token<'a>], number: usize, arity: u8) -> Option<EndedName<'a>>
     ensures { option_map spec.as_occurrence result ≡ option_map (spec.applied_to arity) (spec.word_at tokens.now number) }
 {
     match word_at(tokens, number) {
@@ -86,7 +89,7 @@ fn word_applied(tokens: &[Token], number: usize, arity: u8) -> Option<EndedName>
 }
 
 /// The name, by the tokens of the text.
-fn name_in(tokens: &[Token], ended: Ended) -> Option<EndedName>
+fn name_in<'a>(tokens: &[Token<'a>], ended: Ended) -> Option<EndedName<'a>>
     ensures { option_map spec.as_occurrence result ≡ spec.name_ended tokens.now ended }
 {
     match ended {
@@ -202,20 +205,19 @@ impl FormulaCount {
     /// The limit that the name passes that ends before the token.
     pub fn fault_of_ended(
         &self,
-        alloc: Global,
         sig: &Signature,
         tokens: &[Token],
         is_term: bool,
         token: &Token,
-    ) -> Mem<Option<Place>>
-        ensures { IfOk result (λ told. (formula : List Token) → IsKept tokens.now formula self.now → told ≡ fault_of_ended sig.now (record { is_term = is_term; tokens = formula }) token.now) }
+    ) -> Option<Place>
+        ensures { (formula : List Token) → IsKept tokens.now formula self.now → result ≡ fault_of_ended sig.now (record { is_term = is_term; tokens = formula }) token.now }
     {
         if is_sign(Sign::Open, token) {
-            return Ok(None);
+            return None;
         }
         match name_in(tokens, self.ended) {
-            Some(name) => fault_of_name(alloc, sig, self.is_in_term(is_term, token), name),
-            None => Ok(None),
+            Some(name) => fault_of_name(sig, self.is_in_term(is_term, token), name),
+            None => None,
         }
     }
 }

@@ -1,6 +1,6 @@
 //! Names and numbers, by the signature and by their ranges.
 
-ghost use Rattle.std.specs.Prelude.{◌≡◌, ◌<◌, ◌==◌, ℕ, true, false, IfOk, MatchOption};
+ghost use Rattle.std.specs.Prelude.{◌≡◌, ◌<◌, ◌==◌, ℕ, true, false, MatchOption};
 ghost use Rattle.std.specs.List.{list_all};
 ghost use Rattle.sc_term.specs.Symbol.{IsSignature};
 ghost use Rattle.sc_reading.specs.Tokens.{is_digit, begins};
@@ -11,9 +11,7 @@ ghost use Rattle.sc_section_limits.specs.Limits as spec;
 
 use sc_limits::{capped_value, is_numeral};
 use sc_reading::{InputKind, Place, Token};
-use sc_term::{Mem, Role, Signature, Symbol};
-use sqlite_items::Items;
-use std::alloc::Global;
+use sc_term::{Role, Signature};
 
 /// A name that ends before a token, and where it begins.
 #[derive(Clone, Copy, Debug)]
@@ -99,64 +97,54 @@ fn keeps(sig: &Signature)
     let _ = sig.len();
 }
 
-fn is_symbol(alloc: Global, sig: &Signature, role: Role, name: EndedName) -> Mem<bool>
-    ensures { IfOk result (λ b. b ≡ word.is_symbol sig.now (symbol_in role (as_occurrence name.entry))) }
+fn is_symbol(sig: &Signature, role: Role, name: EndedName) -> bool
+    ensures { result ≡ word.is_symbol sig.now (symbol_in role (as_occurrence name.entry)) }
 {
     keeps(sig);
     if MOST_ARGUMENTS < name.arity {
-        return Ok(false);
+        return false;
     }
-    let symbol = Symbol {
-        name: Items::from_slice(alloc, name.text)?,
-        arity: name.arity,
-        role,
-    };
-    Ok(sig.find(&symbol).is_some())
+    sig.number_of(name.text, name.arity, role).is_some()
 }
 
-fn is_unknown_term(alloc: Global, sig: &Signature, name: EndedName) -> Mem<bool>
-    ensures { IfOk result (λ b. b ≡ word.is_unknown_term sig.now (as_occurrence name.entry)) }
+fn is_unknown_term(sig: &Signature, name: EndedName) -> bool
+    ensures { result ≡ word.is_unknown_term sig.now (as_occurrence name.entry) }
 {
     if name.arity == 0 && begins_as_variable(name.text) {
-        Ok(digits_behind_x(name.text).is_none())
+        digits_behind_x(name.text).is_none()
     } else {
-        Ok(!is_symbol(alloc, sig, Role::Function, name)?)
+        !is_symbol(sig, Role::Function, name)
     }
 }
 
-fn is_unknown(alloc: Global, sig: &Signature, in_term: bool, name: EndedName) -> Mem<bool>
-    ensures { IfOk result (λ b. b ≡ limit.is_unknown sig.now in_term (as_occurrence name.entry)) }
+fn is_unknown(sig: &Signature, in_term: bool, name: EndedName) -> bool
+    ensures { result ≡ limit.is_unknown sig.now in_term (as_occurrence name.entry) }
 {
     if in_term {
-        is_unknown_term(alloc, sig, name)
+        is_unknown_term(sig, name)
     } else {
-        Ok(!is_symbol(alloc, sig, Role::Predicate, name)?)
+        !is_symbol(sig, Role::Predicate, name)
     }
 }
 
 /// The limit that a name passes, in the place of a term or of an atom.
-pub fn fault_of_name(
-    alloc: Global,
-    sig: &Signature,
-    in_term: bool,
-    name: EndedName,
-) -> Mem<Option<Place>>
-    ensures told { IfOk result (λ told. told ≡ spec.fault_of_name sig.now in_term (as_occurrence name.entry)) }
+pub fn fault_of_name(sig: &Signature, in_term: bool, name: EndedName) -> Option<Place>
+    ensures told { result ≡ spec.fault_of_name sig.now in_term (as_occurrence name.entry) }
     ensures keeps { IsSignature sig.now }
 {
     keeps(sig);
     let at = name.at;
-    if is_unknown(alloc, sig, in_term, name)? {
-        Ok(Some(Place {
+    if is_unknown(sig, in_term, name) {
+        Some(Place {
             at,
             kind: InputKind::UnknownName,
-        }))
+        })
     } else if in_term && is_large_variable(name) {
-        Ok(Some(Place {
+        Some(Place {
             at,
             kind: InputKind::OutOfRange,
-        }))
+        })
     } else {
-        Ok(None)
+        None
     }
 }

@@ -54,22 +54,14 @@ impl Reached {
     }
 
     /// The limit on the name that ends before the token, or on the number that the token is.
-    fn fault_before(
-        &self,
-        alloc: Global,
-        sig: &Signature,
-        tokens: &[Token],
-        token: &Token,
-    ) -> Mem<Option<Place>>
-        ensures { IfOk result (λ told. (sentence formula : List Token) → Stands sentence self.now.part formula → IsKept tokens.now formula self.now.formula → told ≡ passed (limits_before sig.now) (record { earlier = sentence; last = token.now })) }
+    fn fault_before(&self, sig: &Signature, tokens: &[Token], token: &Token) -> Option<Place>
+        ensures { (sentence formula : List Token) → Stands sentence self.now.part formula → IsKept tokens.now formula self.now.formula → result ≡ passed (limits_before sig.now) (record { earlier = sentence; last = token.now }) }
     {
         match self.part {
-            SentencePart::Terms => self.formula.fault_of_ended(alloc, sig, tokens, true, token),
-            SentencePart::Clause => self
-                .formula
-                .fault_of_ended(alloc, sig, tokens, false, token),
-            SentencePart::RowName => Ok(None),
-            _ => Ok(out_of_range(number_told(token))),
+            SentencePart::Terms => self.formula.fault_of_ended(sig, tokens, true, token),
+            SentencePart::Clause => self.formula.fault_of_ended(sig, tokens, false, token),
+            SentencePart::RowName => None,
+            _ => out_of_range(number_told(token)),
         }
     }
 
@@ -105,7 +97,7 @@ impl Reached {
         ensures passes { IfOk result (λ told. IfSome told (λ p. first_passed (text_fault_at text_bounds sig.now) (take (at + 1) tokens.now) ≡ Some p)) }
     {
         let token = &tokens[at];
-        if let Some(place) = self.fault_before(alloc, sig, tokens, token)? {
+        if let Some(place) = self.fault_before(sig, tokens, token) {
             return Ok(Some(place));
         }
         self.advance(alloc, at, token)?;

@@ -117,5 +117,14 @@ fn symbols_are_numbered_once(rt: HostRuntime) -> Result<(), Fail> {
         assert_eq!(rt; signature.find(&p), Some(SymId(number)), "arity {arity}");
     }
     assert_eq!(rt; signature.find(&predicate(alloc, b"q", 1)?), None);
+    assert_eq!(rt;
+        signature.number_of(b"p", 2, Role::Predicate),
+        Some(SymId(2))
+    );
+    assert_eq!(rt; signature.number_of(b"p", 2, Role::Function), None);
+    for (arity, number) in [(2, 2), (3, 3), (3, 3)] {
+        let added = signature.add_named(alloc, b"p", arity, Role::Predicate);
+        assert_eq!(rt; added, Ok(SymId(number)), "arity {arity}");
+    }
     Ok(())
 }

@@ -2,6 +2,7 @@
 
 ghost use Rattle.std.specs.Prelude.{◌≡◌, Ok, IfOk, IfErr};
 ghost use Rattle.sc_reading.specs.Tokens as spec;
+ghost use Rattle.sc_scan.specs.Told.{Fails};
 ghost use Rattle.sc_input.specs.Refusal.{Refuses};
 ghost use Rattle.sc_input.specs.Answer.{read_at, answer, Tells};
 ghost use Rattle.sc_written.specs.ProofReading.{proof_of};
@@ -19,7 +20,7 @@ use std::alloc::Global;
 
 /// The tokens of the bytes from one on, none where no byte is left.
 #[tactic(auto, using(crate::proofs::Laws::same_tokens))]
-fn tokens_behind(alloc: Global, bytes: &[u8], from: u64) -> Mem<Items<Token>>
+fn tokens_behind<'a>(alloc: Global, bytes: &'a [u8], from: u64) -> Mem<Items<Token<'a>>>
     ensures { IfOk result (λ ts. ts ≡ spec.tokens_behind from bytes.now) }
 {
     scan(alloc, bytes, (from as usize).min(bytes.len()))
@@ -34,6 +35,20 @@ fn lines_at(lines: Items<Line>, at: Result<u64, Place>) -> Result<(Items<Line>, 
     }
 }
 
+/// The lines that the tokens spell, and where the first token left begins, or what stands behind all.
+fn lines_up_to(
+    alloc: Global,
+    sig: &Signature,
+    behind: Result<u64, Place>,
+    tokens: &[Token],
+) -> Result<(Items<Line>, Result<u64, Place>), Stop>
+    ensures ok { IfOk result (λ x. answer behind (clipped_section sig.now tokens.now) ≡ read_at x.0 x.1) }
+    ensures err { IfErr result (λ e. Fails e (clipped_section sig.now tokens.now)) }
+{
+    let (lines, left) = read_section(alloc, sig, tokens)?;
+    Ok((lines, first_byte(behind, left)))
+}
+
 /// What is read of tokens that pass no limit, or only with the last of them. Behind them stands the byte at which the
 /// text ends, or that limit: it is the answer where they are read to their end.
 #[tactic(auto, using(crate::proofs::Laws::up_to))]
@@ -45,11 +60,8 @@ fn read_up_to(
 ) -> Result<(Items<Line>, u64), InputError>
     ensures { Tells (λ x. (x.0, x.1)) result (answer behind (clipped_section sig.now tokens.now)) }
 {
-    match read_section(alloc, sig, tokens) {
-        Ok((lines, left)) => {
-            let at = first_byte(behind, left);
-            lines_at(lines, at)
-        }
+    match lines_up_to(alloc, sig, behind, tokens) {
+        Ok((lines, at)) => lines_at(lines, at),
         Err(Stop::At(left, kind)) => {
             let at = first_byte(behind, last_tokens(tokens, left));
             Err(fault_at(kind, at))

@@ -1,6 +1,7 @@
-use Rattle.std.proofs.Common.{◌≡◌, ◌∙◌, sym, ap, ℕ, List, [], suc, ◌+◌, ◌-◌, length, arith, rules}
+use Rattle.std.proofs.Common.{◌≡◌, ◌∙◌, sym, ap, ℕ, Bool, List, [], suc, ◌+◌, ◌-◌, length, arith, rules}
 use Rattle.std.proofs.lemmas.List.{map_push}
 use Rattle.sc_reading.specs.Reader as spec
+use Rattle.sc_reading.specs.declared.token.Token.{Token}
 use Rattle.sc_reading.specs.ProblemGrammar.{Item}
 use Rattle.sc_grammar.specs.declared.item.Item.{Item as Told}
 use Rattle.sc_grammar.specs.Behind.{behind}
@@ -13,23 +14,32 @@ loop-init c =
     let most = length c.args.tokens.now in
     let all : most - 0 ≡ most = omega arith in
     let read : ℕ → spec.Read (List Item) = λ k. spec.repeated (ends_at c.args.before_section) told_item k c.args.tokens.now in
-    ap (λ (front : List Told). behind (items_of front) (read (most - 0))) c.new-front.ensures
+    ap (λ (rest : List Token). behind (items_of c.new-front.result) (spec.repeated (ends_at c.args.before_section) told_item (most - 0) rest)) c.new-rest.ensures
+    ∙ ap (λ (front : List Told). behind (items_of front) (read (most - 0))) c.new-front.ensures
     ∙ ap (λ (k : ℕ). behind [] (read k)) all ∙ behind_none (read most)
+
+-- what is still to be read, as it is read
+abbrev read : Bool → ℕ → List Token → spec.Read (List Item)
+read before_section k rest = spec.repeated (ends_at before_section) told_item k rest
 
 pub loop-preserved : goal.loop-preserved
 loop-preserved c =
     let most = length c.args.tokens.now in
     let more : most - c.loop.counter ≡ suc (most - (c.loop.counter + 1)) = omega (arith, c.loop-test.true) in
-    repeats_one (ends_at c.args.before_section) told_item most c.loop.counter (items_of c.loop.front) (items_of c.push.new.self) (item_of c.in_ok-item.item) c.loop.rest.now c.in_ok-item.after.now
-    more (ap items_of c.in_ok-push.ensures.ok ∙ map_push item_of c.loop.front c.in_ok-item.item) (search rules) c.in_ok-item.ensures ∙ c.loop.invariant
+    ap (λ (rest : List Token). behind (items_of c.push.new.self) (read c.args.before_section (most - (c.loop.counter + 1)) rest)) c.new-rest-in-loop.ensures
+    ∙ repeats_one (ends_at c.args.before_section) told_item most c.loop.counter (items_of c.loop.front) (items_of c.push.new.self) (item_of c.in_ok-item.item) c.tokens-left.result.now c.in_ok-item.after.now
+    more (ap items_of c.in_ok-push.ensures.ok ∙ map_push item_of c.loop.front c.in_ok-item.item) (search rules) c.in_ok-item.ensures
+    ∙ ap (λ (rest : List Token). behind (items_of c.loop.front) (read c.args.before_section (most - c.loop.counter) rest)) c.tokens-left.ensures ∙ c.loop.invariant
 
 pub returns-then-ends : goal.returns-then-ends
 returns-then-ends c =
-    sym c.loop.invariant ∙ repeats_none (ends_at c.args.before_section) told_item (length c.args.tokens.now - c.loop.counter) (items_of c.loop.front) c.loop.rest.now (search rules)
+    sym (ap (λ (rest : List Token). behind (items_of c.loop.front) (read c.args.before_section (length c.args.tokens.now - c.loop.counter) rest)) c.tokens-left.ensures ∙ c.loop.invariant)
+    ∙ repeats_none (ends_at c.args.before_section) told_item (length c.args.tokens.now - c.loop.counter) (items_of c.loop.front) c.tokens-left.result.now (search rules)
 
 pub returns-in_err-item : goal.returns-in_err-item
 returns-in_err-item c =
     let most = length c.args.tokens.now in
     let more : most - c.loop.counter ≡ suc (most - (c.loop.counter + 1)) = omega (arith, c.loop-test.true) in
-    repeats_fails _ _ c.in_err-item.field-0.0 (ends_at c.args.before_section) told_item most c.loop.counter (items_of c.loop.front) c.loop.rest.now _
-    more (search rules) (search rules) c.in_err-item.ensures c.loop.invariant
+    repeats_fails _ _ c.in_err-item.field-0.0 (ends_at c.args.before_section) told_item most c.loop.counter (items_of c.loop.front) c.tokens-left.result.now _
+    more (search rules) (search rules) c.in_err-item.ensures
+    (ap (λ (rest : List Token). behind (items_of c.loop.front) (read c.args.before_section (most - c.loop.counter) rest)) c.tokens-left.ensures ∙ c.loop.invariant)

@@ -1,6 +1,7 @@
-use Rattle.std.proofs.Common.{◌≡◌, ◌∙◌, sym, ap, ℕ, suc, ◌+◌, ◌-◌, arith, rules}
+use Rattle.std.proofs.Common.{◌≡◌, ◌∙◌, sym, ap, ℕ, List, suc, ◌+◌, ◌-◌, arith, rules}
 use Rattle.sc_reading.specs.Reader as spec
 use Rattle.sc_reading.specs.declared.token.Sign.TheVariants.{Comma}
+use Rattle.sc_reading.specs.declared.token.Token.{Token}
 use Rattle.sc_reading.specs.ClauseGrammar.{side_within}
 use Rattle.sc_grammar.specs.Behind.{behind, sides_behind}
 use Rattle.sc_grammar.proofs.Sides.{goes_on, one_side}
@@ -17,7 +18,9 @@ pub sides-loop-preserved : goal.sides-loop-preserved
 sides-loop-preserved t c =
     let more : c.args.most - c.loop.counter ≡ suc (c.args.most - (c.loop.counter + 1)) = omega (arith, c.loop-test.true) in
     record {
-      so_far = goes_on (side_within c.args.n) c.loop.count c.loop.names c.side_within.new.names (c.args.most - (c.loop.counter + 1)) c.loop.rest.now _ _ c.in_ok-after.ensures (search rules) c.in_ok-rest.ensures
-          ∙ ap (λ (k : ℕ). sides_behind c.loop.count c.loop.names (spec.separated Comma (side_within c.args.n) k c.loop.rest.now)) (sym more) ∙ c.loop.invariant.so_far;
+      so_far = ap (λ (rest : List Token). sides_behind (c.loop.count + 1) c.side_within.new.names (spec.separated Comma (side_within c.args.n) (c.args.most - (c.loop.counter + 1)) rest)) c.new-rest-in-loop.ensures
+          ∙ goes_on (side_within c.args.n) c.loop.count c.loop.names c.side_within.new.names (c.args.most - (c.loop.counter + 1)) c.tokens-left.result.now _ _ c.in_ok-after.ensures (search rules) c.in_ok-next.ensures
+          ∙ ap (λ (k : ℕ). sides_behind c.loop.count c.loop.names (spec.separated Comma (side_within c.args.n) k c.tokens-left.result.now)) (sym more)
+          ∙ ap (λ (rest : List Token). sides_behind c.loop.count c.loop.names (spec.separated Comma (side_within c.args.n) (c.args.most - c.loop.counter) rest)) c.tokens-left.ensures ∙ c.loop.invariant.so_far;
       counted = omega (arith, c.loop.invariant.counted);
     }

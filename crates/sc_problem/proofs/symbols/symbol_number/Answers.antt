@@ -1,4 +1,4 @@
-use Rattle.std.proofs.Common.{refl}
+use Rattle.std.proofs.Common.{refl, rules}
 use Rattle.sc_problem.proofs.SymbolNumbers.{number_found, number_missing, number_over}
 use Rattle.sc_problem.proofs.symbols.symbol_number.Goals as goal
 
@@ -6,7 +6,7 @@ pub returns-then-occurrence-gt8 : goal.returns-then-occurrence-gt8
 returns-then-occurrence-gt8 c = number_over _ _ _ c.keeps.ensures c.if-occurrence-gt8.true refl
 
 pub returns-in-Some : goal.returns-in-Some
-returns-in-Some c = number_found _ _ _ _ c.in_ok-symbol.ensures c.keeps.ensures c.in-Some.ensures.found
+returns-in-Some c = number_found _ _ _ _ (search rules) c.keeps.ensures c.in-Some.ensures.found
 
-pub returns : goal.returns
-returns c = number_missing _ _ _ _ c.in_ok-symbol.ensures c.in-None.ensures.none refl
+pub returns-in-None : goal.returns-in-None
+returns-in-None c = number_missing _ _ _ _ (search rules) c.in-None.ensures.none refl

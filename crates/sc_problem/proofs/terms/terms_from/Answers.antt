@@ -4,7 +4,7 @@ use Rattle.std.proofs.lemmas.Iterator.Consumers.{YieldsList-end}
 use Rattle.sc_reading.specs.Numbering.{term_at}
 use Rattle.sc_problem.proofs.StackLaws.{name_before, from_end, variable_term, symbol_term}
 use Rattle.sc_problem.proofs.terms.terms_from.Goals as goal
-use Rattle.sc_problem.proofs.terms.terms_from.Goals.{in-Some-number, in-None-number+in_ok-symbol_number-in-None-number}
+use Rattle.sc_problem.proofs.terms.terms_from.Goals.{in-Some-number, in-None-number}
 
 pub loop-occurrence-preserved : goal.loop-occurrence-preserved
 loop-occurrence-preserved g c =
@@ -15,9 +15,9 @@ loop-occurrence-preserved g c =
     let made : c.match-number.term ≡ term_at variable symbols o.now later =
     elim c.match-number.branch [
       | in-Some-number w ↦ w.term-is ∙ variable_term variable symbols o.now later w.in-Some-number.number w.in-Some-number.ensures
-      | in-None-number+in_ok-symbol_number-in-None-number w ↦
-          w.term-is ∙ symbol_term variable symbols o.now later c.in_ok-args.args (w.in_ok-symbol_number-in-None-number).field-0
-          w.in-None-number.ensures (w.in_ok-symbol_number-in-None-number).ensures c.in_ok-args.ensures.taken
+      | in-None-number w ↦
+          w.term-is ∙ symbol_term variable symbols o.now later c.in_ok-args.args (w.symbol_number).result
+          w.in-None-number.ensures (w.symbol_number).ensures c.in_ok-args.ensures.taken
     ] in
     rw c.in_ok-push.ensures.items
     (name_before variable symbols c.loop-occurrence.yielded o c.loop-occurrence.stack.items c.take_off.new.stack.items c.match-number.term

@@ -1,20 +1,12 @@
 use Rattle.std.proofs.Common.{◌∙◌, sym, ap, Bool}
-use Rattle.std.specs.Prelude.{Option, Result, Ok, Err, IfOk}
-use Rattle.sc_term.specs.declared.memory.OutOfMemory.{OutOfMemory}
-use Rattle.sc_reading.specs.declared.fault.Place.{Place}
 use Rattle.sc_section_limits.specs.Names.{as_occurrence}
 use Rattle.sc_section_limits.specs.Limits.{fault_of_name}
 use Rattle.sc_section_limits.proofs.Keeping.{ended_told}
 use Rattle.sc_section_limits.proofs.formula.FormulaCount.fault_of_ended.Goals as goal
 
-if_ok : (P Q : Option Place → Type 0) (r : Result (Option Place) OutOfMemory) → ((told : Option Place) → P told → Q told) → IfOk r P → IfOk r Q
-if_ok P Q (Ok told) f h = f told h
-if_ok P Q (Err e) f h = h
-
 pub returns-in-Some : goal.returns-in-Some
-returns-in-Some c =
+returns-in-Some c = λ formula h.
     let symbols = c.args.sig.now in
     let name = c.in-Some.name in
-    if_ok _ _ c.fault_of_name.result (λ told e formula h.
-    e ∙ ap (λ (b : Bool). fault_of_name symbols b (as_occurrence name)) c.is_in_term.ensures
-    ∙ ended_told symbols c.args.tokens.now formula c.args.is_term c.args.token.now c.args.self.now c.name_in.result name c.fault_of_name.ensures.keeps (sym c.is_sign.ensures ∙ c.if-is_sign.false) c.name_in.ensures c.in-Some.is h) c.fault_of_name.ensures.told
+    c.fault_of_name.ensures.told ∙ ap (λ (b : Bool). fault_of_name symbols b (as_occurrence name)) c.is_in_term.ensures
+    ∙ ended_told symbols c.args.tokens.now formula c.args.is_term c.args.token.now c.args.self.now c.name_in.result name c.fault_of_name.ensures.keeps (sym c.is_sign.ensures ∙ c.if-is_sign.false) c.name_in.ensures c.in-Some.is h

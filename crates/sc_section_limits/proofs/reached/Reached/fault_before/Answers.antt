@@ -1,8 +1,6 @@
 use Rattle.std.proofs.Common.{◌∙◌, sym, ap}
-use Rattle.std.specs.Prelude.{Option, Result, Ok, Err, IfOk, option_map}
-use Rattle.sc_term.specs.declared.memory.OutOfMemory.{OutOfMemory}
+use Rattle.std.specs.Prelude.{option_map}
 use Rattle.sc_reading.specs.declared.fault.InputKind.TheVariants.{OutOfRange}
-use Rattle.sc_reading.specs.declared.fault.Place.{Place}
 use Rattle.sc_reading.specs.Faults.{place}
 use Rattle.sc_section_limits.specs.declared.part.SentencePart.{SentencePart}
 use Rattle.sc_section_limits.specs.Parts.{formula_in}
@@ -10,19 +8,13 @@ use Rattle.sc_section_limits.proofs.Faults.{before_name}
 use Rattle.sc_section_limits.proofs.Going.{number_before, row_name_before}
 use Rattle.sc_section_limits.proofs.reached.Reached.fault_before.Goals as goal
 
-if_ok : (P Q : Option Place → Type 0) (r : Result (Option Place) OutOfMemory) → ((told : Option Place) → P told → Q told) → IfOk r P → IfOk r Q
-if_ok P Q (Ok told) f h = f told h
-if_ok P Q (Err e) f h = h
-
 pub returns-in-Terms : goal.returns-in-Terms
-returns-in-Terms c =
-    if_ok _ _ c.fault_of_ended.result (λ told e sentence formula s h.
-    e formula h ∙ sym (before_name c.args.sig.now sentence _ c.args.token.now (s.so_far ∙ ap (λ (p : SentencePart). formula_in p formula) c.in-Terms.is))) c.fault_of_ended.ensures
+returns-in-Terms c = λ sentence formula s h.
+    c.fault_of_ended.ensures formula h ∙ sym (before_name c.args.sig.now sentence _ c.args.token.now (s.so_far ∙ ap (λ (p : SentencePart). formula_in p formula) c.in-Terms.is))
 
 pub returns-in-Clause : goal.returns-in-Clause
-returns-in-Clause c =
-    if_ok _ _ c.fault_of_ended-in-Clause.result (λ told e sentence formula s h.
-    e formula h ∙ sym (before_name c.args.sig.now sentence _ c.args.token.now (s.so_far ∙ ap (λ (p : SentencePart). formula_in p formula) c.in-Clause.is))) c.fault_of_ended-in-Clause.ensures
+returns-in-Clause c = λ sentence formula s h.
+    c.fault_of_ended-in-Clause.ensures formula h ∙ sym (before_name c.args.sig.now sentence _ c.args.token.now (s.so_far ∙ ap (λ (p : SentencePart). formula_in p formula) c.in-Clause.is))
 
 pub returns-in-RowName : goal.returns-in-RowName
 returns-in-RowName c = λ sentence formula s h. row_name_before c.args.sig.now sentence formula c.args.self.now.part c.args.token.now s c.in-RowName.is

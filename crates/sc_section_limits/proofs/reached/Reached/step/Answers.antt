@@ -18,8 +18,8 @@ returns-in-Some-clause-passes c =
     let at = c.args.at in
     let t = c.index-tokens-at.result in
     let h = c.requires.behind in
-    told_before c.args.sig.now tokens (take (at + 1) tokens) at t c.args.self.now c.in_ok-place.field-0 c.in-Some.place h (one_taken tokens at t c.requires.within c.index-tokens-at.is)
-    (c.in_ok-place.ensures _ _ h.within.stands h.within.kept) c.in-Some.is
+    told_before c.args.sig.now tokens (take (at + 1) tokens) at t c.args.self.now c.fault_before.result c.in-Some.place h (one_taken tokens at t c.requires.within c.index-tokens-at.is)
+    (c.fault_before.ensures _ _ h.within.stands h.within.kept) c.in-Some.is
 
 pub between-formula-requires-clause-ordered : goal.between-formula-requires-clause-ordered
 between-formula-requires-clause-ordered c =
@@ -40,8 +40,8 @@ returns-then-is_sign-clause-goes_on c = λ none.
     let one = one_taken tokens at t c.requires.within c.index-tokens-at.is in
     let within = taken_in symbols tokens at t c.args.self.now new c.requires.within c.index-tokens-at.is h c.in_ok-advance.ensures in
     starts_anew symbols tokens at t c.new.result c.requires.within one (sym c.is_sign.ensures ∙ c.if-is_sign.true) (c.new.ensures.kept tokens) c.new.ensures.start c.new.ensures.weight c.new.ensures.around
-    (told_behind symbols tokens (take (at + 1) tokens) at t c.args.self.now new c.between-formula.result.now c.in_ok-place.field-0 c.fault_in_formula-told.result h one
-    (c.in_ok-place.ensures _ _ h.within.stands h.within.kept) c.in_default.is within c.between-formula.ensures c.fault_in_formula-told.ensures
+    (told_behind symbols tokens (take (at + 1) tokens) at t c.args.self.now new c.between-formula.result.now c.fault_before.result c.fault_in_formula-told.result h one
+    (c.fault_before.ensures _ _ h.within.stands h.within.kept) c.in_default.is within c.between-formula.ensures c.fault_in_formula-told.ensures
     ∙ ok_of c.fault_in_formula-told.result None none)
 
 pub returns-then-is_sign-clause-passes : goal.returns-then-is_sign-clause-passes
@@ -54,8 +54,8 @@ returns-then-is_sign-clause-passes c =
     let new = c.advance.new.self in
     let within = taken_in symbols tokens at t c.args.self.now new c.requires.within c.index-tokens-at.is h c.in_ok-advance.ensures in
     passes _ c.fault_in_formula-told.result
-    (told_behind symbols tokens (take (at + 1) tokens) at t c.args.self.now new c.between-formula.result.now c.in_ok-place.field-0 c.fault_in_formula-told.result h (one_taken tokens at t c.requires.within c.index-tokens-at.is)
-    (c.in_ok-place.ensures _ _ h.within.stands h.within.kept) c.in_default.is within c.between-formula.ensures c.fault_in_formula-told.ensures)
+    (told_behind symbols tokens (take (at + 1) tokens) at t c.args.self.now new c.between-formula.result.now c.fault_before.result c.fault_in_formula-told.result h (one_taken tokens at t c.requires.within c.index-tokens-at.is)
+    (c.fault_before.ensures _ _ h.within.stands h.within.kept) c.in_default.is within c.between-formula.ensures c.fault_in_formula-told.ensures)
 
 pub returns-else-is_sign-clause-goes_on : goal.returns-else-is_sign-clause-goes_on
 returns-else-is_sign-clause-goes_on c = λ none.
@@ -68,8 +68,8 @@ returns-else-is_sign-clause-goes_on c = λ none.
     let one = one_taken tokens at t c.requires.within c.index-tokens-at.is in
     let within = taken_in symbols tokens at t c.args.self.now new c.requires.within c.index-tokens-at.is h c.in_ok-advance.ensures in
     goes_on symbols tokens at t new one (sym c.is_sign.ensures ∙ c.if-is_sign.false) within
-    (told_behind symbols tokens (take (at + 1) tokens) at t c.args.self.now new c.between-formula.result.now c.in_ok-place.field-0 c.fault_in_formula-told.result h one
-    (c.in_ok-place.ensures _ _ h.within.stands h.within.kept) c.in_default.is within c.between-formula.ensures c.fault_in_formula-told.ensures
+    (told_behind symbols tokens (take (at + 1) tokens) at t c.args.self.now new c.between-formula.result.now c.fault_before.result c.fault_in_formula-told.result h one
+    (c.fault_before.ensures _ _ h.within.stands h.within.kept) c.in_default.is within c.between-formula.ensures c.fault_in_formula-told.ensures
     ∙ ok_of c.fault_in_formula-told.result None none)
 
 pub returns-else-is_sign-clause-passes : goal.returns-else-is_sign-clause-passes
@@ -82,5 +82,5 @@ returns-else-is_sign-clause-passes c =
     let new = c.advance.new.self in
     let within = taken_in symbols tokens at t c.args.self.now new c.requires.within c.index-tokens-at.is h c.in_ok-advance.ensures in
     passes _ c.fault_in_formula-told.result
-    (told_behind symbols tokens (take (at + 1) tokens) at t c.args.self.now new c.between-formula.result.now c.in_ok-place.field-0 c.fault_in_formula-told.result h (one_taken tokens at t c.requires.within c.index-tokens-at.is)
-    (c.in_ok-place.ensures _ _ h.within.stands h.within.kept) c.in_default.is within c.between-formula.ensures c.fault_in_formula-told.ensures)
+    (told_behind symbols tokens (take (at + 1) tokens) at t c.args.self.now new c.between-formula.result.now c.fault_before.result c.fault_in_formula-told.result h (one_taken tokens at t c.requires.within c.index-tokens-at.is)
+    (c.fault_before.ensures _ _ h.within.stands h.within.kept) c.in_default.is within c.between-formula.ensures c.fault_in_formula-told.ensures)
