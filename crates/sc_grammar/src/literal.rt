@@ -12,6 +12,9 @@ use sc_scan::{Stop, next_is_sign, stop_at, the_sign};
 use sqlite_items::Items;
 use std::alloc::Global;
 
+// Room for the names of a usual literal, so that few grow.
+const USUAL_NAMES: usize = 8;
+
 /// A literal: a side, an equation, an equation in parentheses, `-` and a side, or `-` and an equation in parentheses.
 pub fn read_literal<'t, 'a>(
     alloc: Global,
@@ -132,7 +135,7 @@ fn one_side<'t, 'a>(
 ) -> Result<(Items<Occurrence<'a>>, &'t [Token<'a>]), Stop>
     ensures { Gives (λ x. (x.0, x.1.now)) result (of.side tokens.now) }
 {
-    let mut names = Items::new(alloc);
+    let mut names = Items::from_vec(Vec::with_capacity(alloc, USUAL_NAMES)?);
     let rest = read_side(alloc, tokens, &mut names)?;
     Ok((names, rest))
 }
