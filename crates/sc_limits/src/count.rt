@@ -87,38 +87,17 @@ impl AtomCount {
         }
     }
 
-    /// With one token more.
-    fn with(self, token: &Token) -> AtomCount
-        requires { self.around < usize.MAX }
-        ensures counted { AtomGrows token.now self result }
-        ensures around { result.around ≤ self.around + 1 }
+    /// Counts one token more.
+    fn add(&mut self, token: &Token)
+        requires { self.old.around < usize.MAX }
+        ensures counted { AtomGrows token.now self.old self.new }
+        ensures around { self.new.around ≤ self.old.around + 1 }
     {
-        let AtomCount {
-            around,
-            level,
-            equality,
-        } = self;
         match token {
-            Token::Word(..) => AtomCount {
-                around,
-                level: level.max(around + 1),
-                equality,
-            },
-            Token::Punctuation(_, Sign::Open) => AtomCount {
-                around: around + 1,
-                level,
-                equality,
-            },
-            Token::Punctuation(_, Sign::Close) => AtomCount {
-                around: around.saturating_sub(1),
-                level,
-                equality,
-            },
-            _ => AtomCount {
-                around,
-                level,
-                equality: equality || is_equality(token),
-            },
+            Token::Word(..) => self.level = self.level.max(self.around + 1),
+            Token::Punctuation(_, Sign::Open) => self.around += 1,
+            Token::Punctuation(_, Sign::Close) => self.around = self.around.saturating_sub(1),
+            _ => self.equality = self.equality || is_equality(token),
         }
     }
 }
@@ -134,52 +113,41 @@ impl LiteralCount {
         }
     }
 
-    /// With one token more.
-    fn with(self, token: &Token) -> LiteralCount
-        requires { self.atom.around < usize.MAX }
-        ensures counted { (tokens : List Token) → LiteralCounted tokens self → LiteralCounted (tokens ++ token.now ∷ []) result }
-        ensures around { result.atom.around ≤ self.atom.around + 1 }
+    /// Counts one token more.
+    fn add(&mut self, token: &Token)
+        requires { self.old.atom.around < usize.MAX }
+        ensures counted { (tokens : List Token) → LiteralCounted tokens self.old → LiteralCounted (tokens ++ token.now ∷ []) self.new }
+        ensures around { self.new.atom.around ≤ self.old.atom.around + 1 }
     {
         if is_sign(Sign::Bar, token) {
-            return LiteralCount::new();
+            *self = LiteralCount::new();
+            return;
         }
-        let atom = self.atom;
         match self.part {
             Part::Start => {
                 if is_sign(Sign::Minus, token) {
-                    LiteralCount {
-                        part: Part::Signed,
-                        atom,
-                    }
+                    self.part = Part::Signed;
                 } else {
-                    begun(atom, token)
+                    self.begin(token);
                 }
             }
-            Part::Signed => begun(atom, token),
-            Part::Inside => LiteralCount {
-                part: Part::Inside,
-                atom: atom.with(token),
-            },
+            Part::Signed => self.begin(token),
+            Part::Inside => self.atom.add(token),
         }
     }
-}
 
-/// A literal whose sign, if it has one, is read, with one token more.
-fn begun(atom: AtomCount, token: &Token) -> LiteralCount
-    requires { atom.around < usize.MAX }
-    ensures part { result.part ≡ Part.Inside }
-    ensures bracket { is_sign Open token.now ≡ true → result.atom ≡ atom }
-    ensures counted { is_sign Open token.now ≡ false → AtomGrows token.now atom result.atom }
-    ensures around { result.atom.around ≤ atom.around + 1 }
-{
-    let atom = if is_sign(Sign::Open, token) {
-        atom
-    } else {
-        atom.with(token)
-    };
-    LiteralCount {
-        part: Part::Inside,
-        atom,
+    /// Counts one token more of a literal whose sign, if it has one, is counted.
+    fn begin(&mut self, token: &Token)
+        requires { self.old.atom.around < usize.MAX }
+        ensures part { self.new.part ≡ Part.Inside }
+        ensures bracket { is_sign Open token.now ≡ true → self.new.atom ≡ self.old.atom }
+        ensures counted { is_sign Open token.now ≡ false → AtomGrows token.now self.old.atom self.new.atom }
+        ensures around { self.new.atom.around ≤ self.old.atom.around + 1 }
+    {
+        self.part = Part::Inside;
+        if !is_sign(Sign::Open, token) {
+            self.atom.add(token);
+        }
     }
 }
 
@@ -290,7 +258,7 @@ impl ClauseCount {
         ensures around { OnOk result (self.new.literal.atom.around ≤ self.old.literal.atom.around + 1) }
     {
         count_commas(&mut self.commas, token)?;
-        self.literal = self.literal.with(token);
+        self.literal.add(token);
         if has_weight(token) {
             self.weight += 1;
         }
@@ -309,7 +277,7 @@ impl ClauseCount {
     fn is_too_deep(&self) -> bool
         ensures { (tokens : List Token) → Counted tokens self.now → result ≡ nat_lt 256 (spec.depth_so_far tokens) }
     {
-        let atom = self.literal.atom;
+        let atom = &self.literal.atom;
         if atom.equality {
             MOST_DEPTH <= atom.level
         } else {

@@ -6,7 +6,7 @@ pub returns-then-has_weight-clause-counted : goal.returns-then-has_weight-clause
 returns-then-has_weight-clause-counted c = λ tokens h.
     record {
       weight = ap (λ (n : ℕ). n + 1) h.weight ∙ sym (weight-yes tokens c.args.token.now (sym c.has_weight.ensures ∙ c.if-has_weight.true));
-      literal = c.with-self.ensures.counted tokens h.literal;
+      literal = c.add.ensures.counted tokens h.literal;
       commas = counted tokens c.args.token.now c.count_commas.new.commas (c.in_ok-count_commas.ensures _ h.commas);
     }
 
@@ -14,6 +14,6 @@ pub returns-else-has_weight-clause-counted : goal.returns-else-has_weight-clause
 returns-else-has_weight-clause-counted c = λ tokens h.
     record {
       weight = h.weight ∙ sym (weight-no tokens c.args.token.now (sym c.has_weight.ensures ∙ c.if-has_weight.false));
-      literal = c.with-self.ensures.counted tokens h.literal;
+      literal = c.add.ensures.counted tokens h.literal;
       commas = counted tokens c.args.token.now c.count_commas.new.commas (c.in_ok-count_commas.ensures _ h.commas);
     }
