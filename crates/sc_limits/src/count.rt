@@ -1,7 +1,7 @@
 //! What is counted of a clause so far: its weight, the depth of its last atom, and the commas of the parentheses
 //! that are open.
 
-ghost use Rattle.std.specs.Prelude.{◌≡◌, ◌≤◌, ◌<◌, ◌+◌, ◌++◌, ◌∷◌, [], ℕ, List, OnOk, IfOk, true, false, nat_lt, nat_le, reverse, if◌then◌else◌};
+ghost use Rattle.std.specs.Prelude.{◌≡◌, ◌≤◌, ◌<◌, ◌+◌, ◌++◌, ◌∷◌, [], ℕ, List, OnOk, IfOk, None, true, false, nat_lt, nat_le, reverse, if◌then◌else◌};
 ghost use Rattle.sc_reading.specs.Token.{is_sign, at_of};
 ghost use Rattle.sc_reading.specs.declared.token.Sign.TheVariants.{Open};
 ghost use Rattle.sc_reading.specs.declared.token.Token.{Token};
@@ -283,6 +283,15 @@ impl ClauseCount {
         } else {
             MOST_DEPTH < atom.level
         }
+    }
+
+    /// Whether none of the three limits is passed that are told below.
+    pub fn is_within(&self) -> bool
+        ensures arity { (tokens : List Token) → Counted tokens self.now → result ≡ true → limit.arity_told problem_bounds tokens ≡ None }
+        ensures weight { (tokens : List Token) → Counted tokens self.now → result ≡ true → limit.weight_told problem_bounds tokens ≡ None }
+        ensures depth { (tokens : List Token) → Counted tokens self.now → result ≡ true → limit.depth_told problem_bounds tokens ≡ None }
+    {
+        self.weight <= MOST_WEIGHT && !self.has_ninth_argument() && !self.is_too_deep()
     }
 
     /// Where the `,` before an argument too many stands.

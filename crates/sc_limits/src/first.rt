@@ -5,7 +5,7 @@ ghost use Rattle.sc_reading.specs.Faults.{first_passed};
 ghost use Rattle.sc_reading.specs.ProblemLimits.{problem_bounds, problem_fault_at};
 
 use crate::reached::Reached;
-use sc_reading::{Place, Token};
+use sc_reading::{InputKind, Place, Token};
 use sc_term::Mem;
 use std::alloc::Global;
 
@@ -30,8 +30,12 @@ pub fn first_limit(alloc: Global, tokens: &[Token]) -> Mem<Option<Passed>>
     ensures within { IfOk result (λ passed. IfSome passed (λ p. p.token < length tokens.now)) }
 {
     let mut reached = Reached::new(alloc)?;
+    let mut place = Place {
+        at: 0,
+        kind: InputKind::TooMany,
+    };
     for token in 0..tokens.len() {
-        if let Some(place) = reached.step(alloc, tokens, token)? {
+        if reached.step(alloc, tokens, token, &mut place)? {
             return Ok(Some(Passed { token, place }));
         }
     }

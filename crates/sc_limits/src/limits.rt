@@ -1,6 +1,7 @@
 //! The limits of a clause so far, in their order.
 
-ghost use Rattle.std.specs.Prelude.{◌≡◌};
+ghost use Rattle.std.specs.Prelude.{◌≡◌, List, None, true};
+ghost use Rattle.sc_reading.specs.declared.token.Token.{Token};
 ghost use Rattle.sc_limits.specs.Counted.{Counted};
 ghost use Rattle.sc_limits.specs.Limits as spec;
 
@@ -18,6 +19,16 @@ fn clauses_told(clauses: usize, clause: &[Token]) -> Option<u64>
     } else {
         None
     }
+}
+
+/// Whether a clause so far passes no limit, behind fewer clauses than a problem may have.
+pub fn is_within(count: &ClauseCount, clauses: usize) -> bool
+    ensures { (tokens : List Token) → Counted tokens count.now → result ≡ true → spec.fault_in_clause clauses tokens ≡ None }
+{
+    if MOST_CLAUSES <= clauses {
+        return false;
+    }
+    count.is_within()
 }
 
 /// The first limit that a clause so far passes, behind so many clauses.

@@ -1,6 +1,6 @@
 //! What is kept of the tokens so far, and the limit that the next one passes.
 
-ghost use Rattle.std.specs.Prelude.{◌≡◌, ◌≤◌, ◌<◌, ◌+◌, List, [], length, take, true, false, Ok, IfOk, IfSome, None, Some, option_map, if◌then◌else◌};
+ghost use Rattle.std.specs.Prelude.{◌≡◌, ◌≤◌, ◌<◌, ◌+◌, List, [], length, take, true, false, Ok, IfOk, None, Some, option_map, if◌then◌else◌};
 ghost use Rattle.sc_reading.specs.declared.token.Token.{Token};
 ghost use Rattle.sc_reading.specs.Position as at_position;
 ghost use Rattle.sc_reading.specs.Faults.{place, first_passed};
@@ -12,7 +12,7 @@ ghost use Rattle.sc_limits.specs.Reached.{Follows, Reaches, IsBehind};
 
 use crate::count::{ClauseCount, first_at};
 use crate::demodulator::is_demodulator;
-use crate::limits::fault_in_clause;
+use crate::limits::{fault_in_clause, is_within};
 use crate::position::{between, closes, opened};
 use crate::range::{number_so_far, out_of_range};
 use crate::symbols::{Symbols, add_clause};
@@ -83,6 +83,20 @@ fn told(at: Option<u64>, kind: InputKind) -> Option<Place>
     }
 }
 
+/// Whether a place is told, which then stands in `fault`.
+fn is_told(told: Option<Place>, fault: &mut Place) -> bool
+    ensures none { result ≡ false → told ≡ None }
+    ensures some { result ≡ true → told ≡ Some fault.new }
+{
+    match told {
+        Some(place) => {
+            *fault = place;
+            true
+        }
+        None => false,
+    }
+}
+
 impl Reached {
     /// Ends the clause of an open list.
     fn end_clause(&mut self, alloc: Global, home: Home, sentence: &[Token]) -> Mem<Option<Place>>
@@ -145,12 +159,18 @@ impl Reached {
         })
     }
 
-    /// Takes one token more. Where it passes a limit, that is answered.
-    pub fn step(&mut self, alloc: Global, tokens: &[Token], at: usize) -> Mem<Option<Place>>
+    /// Takes one token more. Whether it passes a limit, whose place then stands in `fault`.
+    pub fn step(
+        &mut self,
+        alloc: Global,
+        tokens: &[Token],
+        at: usize,
+        fault: &mut Place,
+    ) -> Mem<bool>
         requires within { at < length tokens.now }
         requires behind { IsBehind (take at tokens.now) self.old }
-        ensures goes_on { result ≡ Ok None → IsBehind (take (at + 1) tokens.now) self.new }
-        ensures passes { IfOk result (λ told. IfSome told (λ p. first_passed (spec.problem_fault_at spec.problem_bounds) (take (at + 1) tokens.now) ≡ Some p)) }
+        ensures goes_on { result ≡ Ok false → IsBehind (take (at + 1) tokens.now) self.new }
+        ensures passes { result ≡ Ok true → first_passed (spec.problem_fault_at spec.problem_bounds) (take (at + 1) tokens.now) ≡ Some fault.new }
     {
         let token = &tokens[at];
         if is_sign(Sign::Stop, token) {
@@ -158,15 +178,19 @@ impl Reached {
             self.count = ClauseCount::new(alloc);
             self.number = None;
             self.start = at + 1;
-            Ok(told)
+            Ok(is_told(told, fault))
         } else if self.home.is_some() {
             self.count.add(token)?;
+            if is_within(&self.count, self.clauses) {
+                return Ok(false);
+            }
             let clause = between(tokens, self.start, at + 1);
-            Ok(fault_in_clause(&self.count, self.clauses, clause))
+            Ok(is_told(fault_in_clause(&self.count, self.clauses, clause), fault))
         } else {
             let item = between(tokens, self.start, at + 1);
             self.number = number_so_far(self.number, item);
-            Ok(told(out_of_range(self.number, item), InputKind::OutOfRange))
+            let outside = told(out_of_range(self.number, item), InputKind::OutOfRange);
+            Ok(is_told(outside, fault))
         }
     }
 }

@@ -1,13 +1,13 @@
-use Rattle.std.proofs.Common.{◌≡◌, subst, ◌+◌, take}
-use Rattle.std.specs.Prelude.{Option, Some, IfSome}
-use Rattle.sc_reading.specs.declared.fault.Place.{Place}
-use Rattle.sc_reading.specs.Faults.{first_passed}
+use Rattle.std.proofs.Common.{ap, ◌+◌, Bool}
+use Rattle.std.specs.Prelude.{Result, Ok}
+use Rattle.sc_term.specs.declared.memory.OutOfMemory.{OutOfMemory}
 use Rattle.sc_reading.specs.ProblemLimits.{problem_bounds, problem_fault_at}
 use Rattle.sc_limits.proofs.OnePosition.{passed_by_first}
 use Rattle.sc_limits.proofs.first.first_limit.Goals as goal
 
-pub returns-in-Some-clause-told : goal.returns-in-Some-clause-told
-returns-in-Some-clause-told c =
-    let fault_at = problem_fault_at problem_bounds in
-    let P : Option Place → Type 0 = λ told. IfSome told (λ p. first_passed fault_at (take (c.loop-token.token + 1) c.args.tokens.now) ≡ Some p) in
-    passed_by_first fault_at (c.loop-token.token + 1) c.args.tokens.now c.in-Some.place (subst P c.in-Some.is c.in_ok-place.ensures.passes)
+abbrev ok : Bool → Result Bool OutOfMemory
+ok told = Ok told
+
+pub returns-then-branch-clause-told : goal.returns-then-branch-clause-told
+returns-then-branch-clause-told c =
+    passed_by_first (problem_fault_at problem_bounds) (c.loop-token.token + 1) c.args.tokens.now c.step.new.fault (c.in_ok-step.ensures.passes (ap ok c.if-branch.true))
