@@ -1,35 +1,63 @@
-//! Answers a table of texts as `scott check` would, and counts those whose answer isn't the one wanted.
+//! Answers a table of texts as `scott` would under the words of each, and counts those whose answer isn't the one wanted.
 //!
-//! The table is standard input. Each case is a line of `==`, a space and what is wanted, and then the text, up to the
-//! line feed before the next such line; `== end` ends the table. Where a text is to be refused, a mark `@` stands in it
-//! at the byte that must be told, and is left out before it is read; what is wanted is then the kind. Else what is
-//! wanted is the answer's line.
+//! The table is standard input. Each row is four parts, of which each goes up to the next line that begins with `==` and a
+//! space, or is such a line:
+//!
+//! ```text
+//! == check : a remark
+//! the text
+//! == 1
+//! what is wanted, without its last line feed
+//! ```
+//!
+//! The first line has the words, with one space between each two, then ` : ` and a remark. The text goes up to the line
+//! feed before the line with the status that is wanted, and what is wanted up to the line feed before the next row.
+//! `== end` ends the table. Where the status is 3, the first `@` of the text marks the byte that must be told: it is left out
+//! before the text is read, and what is wanted is the kind of the fault alone. All else is bytes as they stand.
+//!
+//! The word `reprint` is of this table alone: it reads a problem, and behind it a run text where the word `run` follows, else
+//! a proof section, and prints what it has read of that again.
 #![tactic(auto)]
 
 use sc_base::{Sink, SoundSink, SoundSource, StdSink, StdSource, read_all, write_all};
-use sc_term::Mem;
-use sc_top::scott_over_sound;
+use sc_input::{InputError, read_items};
+use sc_term::{Mem, OutOfMemory};
+use sc_text::{print_proof, print_run, read_proof, read_run};
+use sc_top::{Answer, scott_over_sound};
 use std::alloc::Global;
 use std::io;
 use std::process::ExitCode;
 
 const MOST_BYTES: u64 = 1_000_000;
 
-/// What stands before each case.
+/// A longer answer is not the one wanted.
+const MOST_ANSWER: usize = 32_768;
+
+/// What stands before each row.
 const HEAD: &[u8] = b"== ";
 
-/// The same behind a case.
+/// The same behind a text or what is wanted.
 const NEXT: &[u8] = b"\n== ";
 
 const END: &[u8] = b"end";
 
+/// What stands between the words and the remark.
+const BEHIND_WORDS: &[u8] = b" : ";
+
+const REPRINT: &[u8] = b"reprint";
+
+/// The status of a text that is refused.
+const REFUSED: &[u8] = b"3";
+
 const MARK: u8 = b'@';
 
-/// What is wanted of a text.
+/// The words, the text, and the status and the answer that are wanted.
 #[derive(Clone, Copy)]
-struct Case<'a> {
-    wanted: &'a [u8],
+struct Row<'a> {
+    words: &'a [u8],
     text: &'a [u8],
+    status: &'a [u8],
+    wanted: &'a [u8],
 }
 
 /// What stands before the first occurrence of the pattern, and behind it.
@@ -43,76 +71,150 @@ fn cut<'a>(bytes: &'a [u8], pattern: &[u8]) -> Option<(&'a [u8], &'a [u8])> {
     None
 }
 
-/// The first case of what stands behind a head, and what stands behind the next one.
-fn next_case(table: &[u8]) -> Option<(Case<'_>, &[u8])> {
-    let (wanted, rest) = cut(table, b"\n")?;
+/// The first row of what stands behind a head, and what stands behind the next one.
+fn next_row(table: &[u8]) -> Option<(Row<'_>, &[u8])> {
+    let (words, rest) = cut(table, BEHIND_WORDS)?;
+    let (_remark, rest) = cut(rest, b"\n")?;
     let (text, rest) = cut(rest, NEXT)?;
-    Some((Case { wanted, text }, rest))
+    let (status, rest) = cut(rest, b"\n")?;
+    let (wanted, rest) = cut(rest, NEXT)?;
+    let row = Row {
+        words,
+        text,
+        status,
+        wanted,
+    };
+    Some((row, rest))
 }
 
-/// The text without its mark, and where that stood.
-fn unmarked(alloc: Global, text: &[u8]) -> Mem<(Vec<u8>, Option<usize>)> {
-    let mut bytes = Vec::new(alloc);
-    match cut(text, &[MARK]) {
-        Some((front, behind)) => {
-            bytes.extend_from_slice(front)?;
-            bytes.extend_from_slice(behind)?;
-            Ok((bytes, Some(front.len())))
+fn words(alloc: Global, line: &[u8]) -> Mem<Vec<String>> {
+    let mut words = Vec::new(alloc);
+    let mut rest = line;
+    // A word takes a byte at least.
+    for _ in 0..line.len() {
+        let (word, behind) = cut(rest, b" ").unwrap_or((rest, b""));
+        words.push(String::from_utf8_lossy(alloc, word)?)?;
+        if behind.is_empty() {
+            break;
         }
-        None => {
-            bytes.extend_from_slice(text)?;
-            Ok((bytes, None))
+        rest = behind;
+    }
+    Ok(words)
+}
+
+/// A status and an answer, as they are told.
+fn told(alloc: Global, status: &[u8], answer: &[u8]) -> Mem<Vec<u8>> {
+    let mut told = Vec::from_slice(alloc, status)?;
+    told.push(b'\n')?;
+    told.extend_from_slice(answer)?;
+    Ok(told)
+}
+
+/// A text that is to be refused, without its mark, and the line that is wanted, with the byte where the mark stood.
+fn refused_case(alloc: Global, row: Row) -> Mem<(Vec<u8>, Vec<u8>)> {
+    let (front, behind) = cut(row.text, &[MARK]).unwrap_or((row.text, b""));
+    let mut bytes = Vec::from_slice(alloc, front)?;
+    bytes.extend_from_slice(behind)?;
+    let at = front.len();
+    let mut wanted = told(
+        alloc,
+        row.status,
+        format!(in alloc; "input refused at byte {at}: ")?.as_bytes(),
+    )?;
+    wanted.extend_from_slice(row.wanted)?;
+    wanted.push(b'\n')?;
+    Ok((bytes, wanted))
+}
+
+/// The text as it is read, and the status and the answer that are wanted, as they are told.
+fn case(alloc: Global, row: Row) -> Mem<(Vec<u8>, Vec<u8>)> {
+    if row.status == REFUSED {
+        return refused_case(alloc, row);
+    }
+    let bytes = Vec::from_slice(alloc, row.text)?;
+    let mut wanted = told(alloc, row.status, row.wanted)?;
+    wanted.push(b'\n')?;
+    Ok((bytes, wanted))
+}
+
+/// What is read behind a problem, printed again.
+fn printed_again(alloc: Global, bytes: &[u8]) -> Result<Vec<u8>, InputError> {
+    let items = read_items(alloc, bytes)?;
+    let sig = items.problem.sig();
+    // What follows the items is a word `proof` or `run`, or nothing.
+    if bytes.get(items.rest as usize) == Some(&b'r') {
+        let run = read_run(alloc, sig, bytes, items.rest)?;
+        return Ok(print_run(alloc, sig, &run)?);
+    }
+    let lines = read_proof(alloc, sig, bytes, items.rest)?;
+    Ok(print_proof(alloc, sig, &lines)?)
+}
+
+fn reprint(alloc: Global, bytes: &[u8]) -> Mem<Vec<u8>> {
+    match printed_again(alloc, bytes) {
+        Ok(text) => told(alloc, b"0", &text),
+        Err(InputError::Refused(place)) => {
+            let answer = Answer::InputRefused(place);
+            let text = answer.made_text(alloc)?;
+            told(alloc, REFUSED, text.as_bytes())
         }
+        Err(InputError::OutOfMemory) => Err(OutOfMemory),
     }
 }
 
-/// The line that is wanted.
-fn wanted_line(alloc: Global, wanted: &[u8], mark: Option<usize>) -> Mem<Vec<u8>> {
-    let mut line = Vec::new(alloc);
-    if let Some(at) = mark {
-        line.extend_from_slice(format!(in alloc; "input refused at byte {at}: ")?.as_bytes())?;
+/// The status and the answer of the program.
+fn answer(alloc: Global, words: &[String], bytes: Vec<u8>) -> Mem<Vec<u8>> {
+    let mut source = SoundSource::new(bytes);
+    let mut sink = SoundSink::new(alloc, MOST_ANSWER)?;
+    let status = scott_over_sound(alloc, words, &mut source, &mut sink);
+    told(
+        alloc,
+        format!(in alloc; "{status}")?.as_bytes(),
+        sink.bytes().unwrap_or(b""),
+    )
+}
+
+fn answer_to(alloc: Global, row: Row, bytes: Vec<u8>) -> Mem<Vec<u8>> {
+    if row.words == REPRINT {
+        return reprint(alloc, &bytes);
     }
-    line.extend_from_slice(wanted)?;
-    line.push(b'\n')?;
-    Ok(line)
+    let words = words(alloc, row.words)?;
+    answer(alloc, &words, bytes)
 }
 
 /// Tells a text that is answered otherwise. What the sink can't take is lost, and the count tells all the same.
-fn tell<K: Sink>(sink: &mut K, text: &[u8], wanted: &[u8], told: &[u8]) {
-    let _ = write_all(sink, text);
-    let _ = write_all(sink, b"\n  wanted ");
+fn tell<K: Sink>(sink: &mut K, row: Row, wanted: &[u8], answered: &[u8]) {
+    let _ = write_all(sink, row.words);
+    let _ = write_all(sink, b"\n");
+    let _ = write_all(sink, row.text);
+    let _ = write_all(sink, b"\nwanted ");
     let _ = write_all(sink, wanted);
-    let _ = write_all(sink, b"  answered ");
-    let _ = write_all(sink, told);
+    let _ = write_all(sink, b"answered ");
+    let _ = write_all(sink, answered);
 }
 
 /// Whether the answer is the one wanted; another is told.
-fn is_as_wanted<K: Sink>(alloc: Global, case: Case, sink: &mut K) -> Mem<bool> {
-    let words = vec![in alloc; String::from_str(alloc, "check")?]?;
-    let (bytes, mark) = unmarked(alloc, case.text)?;
-    let wanted = wanted_line(alloc, case.wanted, mark)?;
-    let mut source = SoundSource::new(bytes);
-    let mut answer = SoundSink::new(alloc, 128)?;
-    let _ = scott_over_sound(alloc, &words, &mut source, &mut answer);
-    let told = answer.bytes().unwrap_or(b"");
-    if told == wanted.as_slice() {
+fn is_as_wanted<K: Sink>(alloc: Global, row: Row, sink: &mut K) -> Mem<bool> {
+    let (bytes, wanted) = case(alloc, row)?;
+    let answered = answer_to(alloc, row, bytes)?;
+    if answered.as_slice() == wanted.as_slice() {
         return Ok(true);
     }
-    tell(sink, case.text, &wanted, told);
+    tell(sink, row, &wanted, &answered);
     Ok(false)
 }
 
-/// How many cases there are, and how many of them are answered otherwise.
+/// How many rows there are, and how many of them are answered otherwise.
 fn count<K: Sink>(alloc: Global, table: &[u8], sink: &mut K) -> Mem<(u64, u64)> {
     let mut rest = table.strip_prefix(HEAD).unwrap_or(b"");
-    let (mut cases, mut others): (u64, u64) = (0, 0);
-    // A case takes a byte at least.
+    let (mut rows, mut others): (u64, u64) = (0, 0);
+    // A row takes a byte at least.
     for _ in 0..table.len() {
-        let Some((case, behind)) = next_case(rest) else {
+        let Some((row, behind)) = next_row(rest) else {
             break;
         };
-        cases = cases.saturating_add(1);
-        if !is_as_wanted(alloc, case, sink)? {
+        rows = rows.saturating_add(1);
+        if !is_as_wanted(alloc, row, sink)? {
             others = others.saturating_add(1);
         }
         if behind.starts_with(END) {
@@ -120,12 +222,12 @@ fn count<K: Sink>(alloc: Global, table: &[u8], sink: &mut K) -> Mem<(u64, u64)> 
         }
         rest = behind;
     }
-    Ok((cases, others))
+    Ok((rows, others))
 }
 
 fn run<K: Sink>(alloc: Global, table: &[u8], sink: &mut K) -> Mem<u8> {
-    let (cases, others) = count(alloc, table, sink)?;
-    let line = format!(in alloc; "{cases} cases, {others} answered otherwise\n")?;
+    let (rows, others) = count(alloc, table, sink)?;
+    let line = format!(in alloc; "{rows} rows, {others} answered otherwise\n")?;
     let _ = write_all(sink, line.as_bytes());
     Ok(if others == 0 { 0 } else { 1 })
 }

@@ -4,13 +4,13 @@ use Rattle.std.specs.List.{All}
 use Rattle.std.proofs.lemmas.Bool.{eqb-true, eqb-false}
 use Rattle.std.proofs.lemmas.List.{map-append, append_assoc}
 use Rattle.std.proofs.lemmas.List.Elements.{All-head, All-tail}
-use Rattle.sc_data.specs.Term.{largest}
+use Rattle.sc_term.specs.Term.{largest}
 use Rattle.sc_term.specs.declared.symbol.Symbol.{Symbol}
 use Rattle.sc_cells.specs.declared.cells.Cell.{Cell}
 use Rattle.sc_interp.specs.Structure.{place_of}
 use Rattle.sc_cells.specs.Order.{IsBefore, AreInOrder}
 use Rattle.sc_cells.specs.Cells.{Entry, IsCell, AreCells, cell_numbers, cell_at}
-use Rattle.sc_cells.specs.Listing.{digits, in_turn, entry_where, entries_of, entries_if, entries_at, entries_with, all_entries}
+use Rattle.sc_cells.specs.Listing.{digits, in_turn, entry_where, symbol_entries, entries_if, entries_at, entries_with, all_entries}
 use Rattle.sc_cells.proofs.DigitLaws.{digits_length, digits_below, place_of_digits, digits_of_place, place_below, before_by_place}
 use Rattle.sc_cells.proofs.OrderLaws.{nothing_in_order, one_in_order, in_order_of, turns_in_order}
 
@@ -55,7 +55,7 @@ module _ (size greatest symbol arity : ℕ) (some : 1 ≤ size) where
       by false e = nothing_in_order (λ e. []) (λ e. IsOf size greatest symbol arity e × (place e ≡ p))
           (λ y h. eqb-false _ greatest e (ap (λ (x : Entry). largest x.indices) (sym (is_here p y h.0 h.1)) ∙ h.0.greatest_is))
 
-  pub symbol_in_order : AreInOrder (λ e. place e ∷ []) (IsOf size greatest symbol arity) (entries_of size greatest symbol arity)
+  pub symbol_in_order : AreInOrder (λ e. place e ∷ []) (IsOf size greatest symbol arity) (symbol_entries size greatest symbol arity)
   symbol_in_order =
       in_order_of (λ e. place e ∷ []) (λ e. place e ∷ []) (λ e. IsOf size greatest symbol arity e × (place e < size ^ arity)) (IsOf size greatest symbol arity)
       (λ e h. h.0)

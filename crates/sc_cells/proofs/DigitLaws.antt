@@ -7,7 +7,7 @@ use Rattle.std.proofs.lemmas.List.{length-append, append_assoc, append-nil, reve
 use Rattle.std.proofs.lemmas.List.Sums.{fold-append}
 use Rattle.std.proofs.lemmas.List.Elements.{All-nil, All-push, All-head, All-tail}
 use Rattle.std.proofs.lemmas.Bool.{cases_order}
-use Rattle.sc_data.specs.Term.{largest}
+use Rattle.sc_term.specs.Term.{largest}
 use Rattle.sc_interp.specs.Structure.{place_of}
 use Rattle.sc_cells.specs.Order.{IsBefore}
 use Rattle.sc_cells.specs.Listing.{digits}

@@ -1,14 +1,14 @@
 -- The cells of a size, and what a list of values for the first of them decides.
 use Rattle.std.specs.Prelude.{◌≡◌, ◌^◌, ◌<◌, ℕ, List, [], ◌∷◌, Option, Some, None, Bool, not, IsSomeAnd, Contains, map, take, drop, slice_get, length, nat_eq, ◌&&◌, true, false, option_map, if◌then◌else◌}
 use Rattle.std.specs.List.{All, AllZip, sum_by}
-use Rattle.sc_data.specs.declared.SymId.{SymId}
-use Rattle.sc_data.specs.declared.Term.{Term, fold-Term}
-use Rattle.sc_data.specs.declared.Term.TheOpen.{Term-F}
-use Rattle.sc_data.specs.declared.Term.TheOpen as at
-use Rattle.sc_data.specs.declared.Literal.{Literal}
-use Rattle.sc_data.specs.declared.Clause.{Clause}
-use Rattle.sc_data.specs.Term.{largest}
-use Rattle.sc_data.specs.Interpretation.{Assignment, are_equal}
+use Rattle.sc_term.specs.declared.SymId.{SymId}
+use Rattle.sc_term.specs.declared.Term.{Term, fold-Term}
+use Rattle.sc_term.specs.declared.Term.TheOpen.{Term-F}
+use Rattle.sc_term.specs.declared.Term.TheOpen as at
+use Rattle.sc_term.specs.declared.Literal.{Literal}
+use Rattle.sc_term.specs.declared.Clause.{Clause}
+use Rattle.sc_term.specs.Term.{largest}
+use Rattle.sc_term.specs.Interpretation.{Assignment, are_equal}
 use Rattle.sc_term.specs.declared.symbol.Symbol.{Symbol}
 use Rattle.sc_interp.specs.Structure.{place_of}
 use Rattle.sc_interp.specs.Structure.{values_below as entries_below}

@@ -1,8 +1,8 @@
 -- The instances of clauses over the elements of a size, in order.
 use Rattle.std.specs.Prelude.{◌≡◌, ◌<◌, ℕ, ◌^◌, List, ◌∷◌, IsSomeAnd, min, slice_get, length}
 use Rattle.std.specs.List.{All, sum_by}
-use Rattle.sc_data.specs.declared.Clause.{Clause}
-use Rattle.sc_data.specs.Clause.{width}
+use Rattle.sc_term.specs.declared.Clause.{Clause}
+use Rattle.sc_term.specs.Clause.{width}
 use Rattle.sc_cells.specs.declared.instances.GroundInstance.{GroundInstance}
 use Rattle.sc_cells.specs.declared.instances.GroundError.{GroundError}
 use Rattle.sc_cells.specs.declared.instances.GroundError.TheVariants.{TooWide, OutOfMemory}

@@ -1,8 +1,8 @@
 -- Cells and instances as they are listed: by numbers and their digits, one after another.
 use Rattle.std.specs.Prelude.{ℕ, zero, suc, ◌/◌, ◌%◌, ◌^◌, List, [], ◌∷◌, ◌++◌, Option, Some, None, length, nat_eq, slice_get, if◌then◌else◌}
-use Rattle.sc_data.specs.declared.Clause.{Clause}
-use Rattle.sc_data.specs.Clause.{width}
-use Rattle.sc_data.specs.Term.{largest}
+use Rattle.sc_term.specs.declared.Clause.{Clause}
+use Rattle.sc_term.specs.Clause.{width}
+use Rattle.sc_term.specs.Term.{largest}
 use Rattle.sc_term.specs.declared.symbol.Symbol.{Symbol}
 use Rattle.sc_cells.specs.declared.instances.GroundInstance.{GroundInstance}
 use Rattle.sc_cells.specs.Cells.{Entry}
@@ -25,12 +25,12 @@ entry_where size greatest symbol arity place =
     if nat_eq (largest (digits size arity place)) greatest then record { symbol = symbol; indices = digits size arity place } ∷ [] else []
 
 -- the entries of a symbol of that arity whose greatest argument is that
-abbrev pub entries_of : ℕ → ℕ → ℕ → ℕ → List Entry
-entries_of size greatest symbol arity = in_turn (entry_where size greatest symbol arity) (size ^ arity)
+abbrev pub symbol_entries : ℕ → ℕ → ℕ → ℕ → List Entry
+symbol_entries size greatest symbol arity = in_turn (entry_where size greatest symbol arity) (size ^ arity)
 
 abbrev pub entries_if : ℕ → ℕ → ℕ → Option Symbol → List Entry
 entries_if size greatest symbol None = []
-entries_if size greatest symbol (Some s) = entries_of size greatest symbol s.arity
+entries_if size greatest symbol (Some s) = symbol_entries size greatest symbol s.arity
 
 -- those of the symbol of a number, of which `=` has none
 abbrev pub entries_at : List Symbol → ℕ → ℕ → ℕ → List Entry

@@ -2,17 +2,12 @@
 
 ghost use Rattle.std.specs.Prelude.{◌≡◌, ◌≤◌, ◌^◌, List as AList, [], ◌∷◌, ◌++◌, length, map, IfOk, IfErr, OnOk, if◌then◌else◌};
 ghost use Rattle.sc_cells.specs.Cells.{Entry, AreCells, cell_at, cell_count, IsCauseOfCells};
-ghost use Rattle.sc_cells.specs.Listing.{in_turn, entries_of, entries_with, all_entries};
+ghost use Rattle.sc_cells.specs.Listing.{in_turn, symbol_entries, entries_with, all_entries};
 
 use crate::digits::has_greatest;
-use sc_data::SymId;
-use sc_term::{Mem, Signature};
-use sqlite_items::Items;
+use sc_term::{List, MAX_CELLS, Mem, Signature, SymId};
 use std::alloc::Global;
 use thiserror::Error;
-
-/// The most cells that are listed.
-pub const MOST_CELLS: u64 = 4096;
 
 /// An entry of a symbol other than `=`. The place is the one in the symbol's table: it starts at 0 and, for each
 /// argument in order, becomes the size times itself plus that argument.
@@ -55,7 +50,7 @@ fn count_cells(sig: &Signature, size: u8) -> u64
     count
 }
 
-fn push_if(cells: &mut Items<Cell>, wanted: bool, cell: Cell) -> Mem<()>
+fn push_if(cells: &mut List<Cell>, wanted: bool, cell: Cell) -> Mem<()>
     ensures { OnOk result (cells.new ≡ cells.old ++ (if wanted then cell ∷ [] else [])) }
 {
     if wanted {
@@ -65,11 +60,11 @@ fn push_if(cells: &mut Items<Cell>, wanted: bool, cell: Cell) -> Mem<()>
 }
 
 /// Adds the cells of a symbol whose greatest argument is that.
-fn push_symbol(cells: &mut Items<Cell>, size: u8, greatest: u8, sym: SymId, arity: u8) -> Mem<()>
+fn push_symbol(cells: &mut List<Cell>, size: u8, greatest: u8, sym: SymId, arity: u8) -> Mem<()>
     requires not_empty { 1 ≤ size }
     requires small { size ≤ 8 }
     requires arity { arity ≤ 8 }
-    ensures { OnOk result (cells.new ≡ cells.old ++ map (cell_at size) (entries_of size greatest sym.0 arity)) }
+    ensures { OnOk result (cells.new ≡ cells.old ++ map (cell_at size) (symbol_entries size greatest sym.0 arity)) }
 {
     let count = table_len(size, arity);
     for place in 0..count {
@@ -80,7 +75,7 @@ fn push_symbol(cells: &mut Items<Cell>, size: u8, greatest: u8, sym: SymId, arit
 }
 
 /// Adds the cells whose greatest argument is that.
-fn push_level(cells: &mut Items<Cell>, sig: &Signature, size: u8, greatest: u8) -> Mem<()>
+fn push_level(cells: &mut List<Cell>, sig: &Signature, size: u8, greatest: u8) -> Mem<()>
     requires not_empty { 1 ≤ size }
     requires small { size ≤ 8 }
     ensures { OnOk result (cells.new ≡ cells.old ++ map (cell_at size) (entries_with sig.now size greatest)) }
@@ -93,12 +88,12 @@ fn push_level(cells: &mut Items<Cell>, sig: &Signature, size: u8, greatest: u8) 
     Ok(())
 }
 
-fn list_cells(alloc: Global, sig: &Signature, size: u8) -> Mem<Items<Cell>>
+fn list_cells(alloc: Global, sig: &Signature, size: u8) -> Mem<List<Cell>>
     requires not_empty { 1 ≤ size }
     requires small { size ≤ 8 }
     ensures { IfOk result (λ cells. cells ≡ map (cell_at size) (all_entries sig.now size)) }
 {
-    let mut cells = Items::new(alloc);
+    let mut cells = List::new(alloc);
     for greatest in 0..size {
         push_level(&mut cells, sig, size, greatest)?;
     }
@@ -107,7 +102,7 @@ fn list_cells(alloc: Global, sig: &Signature, size: u8) -> Mem<Items<Cell>>
 
 /// The cells of a size of 1 to 8, in order of the greatest argument (0 without one), then of the symbol's number, then
 /// of the arguments (`AreCells`). `TooWide` comes exactly where there are more than 4,096, and tells how many.
-pub fn cells_of(alloc: Global, sig: &Signature, size: u8) -> Result<Items<Cell>, CellsError>
+pub fn cells_of(alloc: Global, sig: &Signature, size: u8) -> Result<List<Cell>, CellsError>
     requires not_empty { 1 ≤ size }
     requires small { size ≤ 8 }
     ensures value { IfOk result (λ cells. (entries : AList Entry) × AreCells sig.now size entries × (cells ≡ map (cell_at size) entries)) }
@@ -115,7 +110,7 @@ pub fn cells_of(alloc: Global, sig: &Signature, size: u8) -> Result<Items<Cell>,
     ensures refused { IfErr result (IsCauseOfCells (cell_count sig.now size)) }
 {
     let count = count_cells(sig, size);
-    if count > MOST_CELLS {
+    if count > MAX_CELLS {
         return Err(CellsError::TooWide { count });
     }
     match list_cells(alloc, sig, size) {

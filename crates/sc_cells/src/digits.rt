@@ -1,11 +1,10 @@
 //! Numbers as digits.
 
 ghost use Rattle.std.specs.Prelude.{◌≡◌, ◌≤◌, nat_eq, reverse, IfOk};
-ghost use Rattle.sc_data.specs.Term.{largest};
+ghost use Rattle.sc_term.specs.Term.{largest};
 ghost use Rattle.sc_cells.specs.Listing.{digits};
 
-use sc_term::Mem;
-use sqlite_items::Items;
+use sc_term::{List, Mem};
 use std::alloc::Global;
 
 /// The greatest of so many digits of a number, 0 of none.
@@ -45,11 +44,11 @@ fn digits_backwards(alloc: Global, base: u8, len: u64, number: u32) -> Mem<Vec<u
 }
 
 /// So many digits of a number, the least one last.
-pub fn digits_of(alloc: Global, base: u8, len: u64, number: u32) -> Mem<Items<u8>>
+pub fn digits_of(alloc: Global, base: u8, len: u64, number: u32) -> Mem<List<u8>>
     requires { 1 ≤ base }
     ensures { IfOk result (λ r. r ≡ digits base len number) }
 {
     let mut found = digits_backwards(alloc, base, len, number)?;
     found.reverse();
-    Ok(Items::from_vec(found))
+    Ok(List::from_vec(found))
 }

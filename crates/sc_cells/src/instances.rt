@@ -2,19 +2,16 @@
 
 ghost use Rattle.std.specs.Prelude.{◌≡◌};
 
-use sqlite_items::Items;
+use sc_term::List;
 use std::marker::Model;
 use thiserror::Error;
-
-/// The most instances that are listed.
-pub const MOST_INSTANCES: u64 = 200_000;
 
 /// An instance of a clause over elements: the clause's place, from 0, in a list, and the element of each of its
 /// variables, variable 0 first.
 #[derive(Debug, Drop)]
 pub struct GroundInstance {
     pub place: u32,
-    pub values: Items<u8>,
+    pub values: List<u8>,
 }
 
 /// Why instances weren't listed.
@@ -30,21 +27,21 @@ pub enum GroundError {
 /// All instances of the clauses of a list. Contracts see the list of them.
 #[derive(Debug, Drop)]
 pub struct Ground {
-    pub(crate) instances: Items<GroundInstance>,
+    pub(crate) instances: List<GroundInstance>,
 }
 
 impl Model for Ground {
-    ghost use Rattle.std.specs.Prelude.{List};
+    ghost use Rattle.std.specs.Prelude.{List as AList};
     ghost use Rattle.sc_cells.specs.declared.instances.GroundInstance.{GroundInstance};
 
-    ghost Value = { List GroundInstance };
+    ghost Value = { AList GroundInstance };
 
     ghost view = { λ g. g.instances };
 }
 
 impl Ground {
     /// The instances, in order.
-    pub fn instances(&self) -> &Items<GroundInstance>
+    pub fn instances(&self) -> &List<GroundInstance>
         ensures { result.now ≡ self.now }
     {
         &self.instances

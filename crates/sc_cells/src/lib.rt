@@ -10,7 +10,7 @@
 //! the inside, and a literal is false only where every entry that it reads is given (`IsFalseBy`, `IsConsistent`).
 //! `specs/Ground` says what instances are (`AreInstances`), `specs/Order` what an order of lists is.
 //!
-//! It stands on `sc_data` and `sc_term` for clauses and signatures, on `sc_interp` for the places of entries, and on
+//! It stands on `sc_term` for clauses and signatures, on `sc_interp` for the places of entries, and on
 //! `sqlite_items` for lists, which contracts see as lists.
 //!
 //! Callers may rest on this: each list is the one list in that order, and it is complete; both calls count before they
@@ -23,10 +23,6 @@ mod digits;
 mod instances;
 mod listing;
 
-pub use cells::{Cell, CellsError, MOST_CELLS, cells_of};
-pub use instances::{Ground, GroundError, GroundInstance, MOST_INSTANCES};
+pub use cells::{Cell, CellsError, cells_of};
+pub use instances::{Ground, GroundError, GroundInstance};
 pub use listing::ground;
-pub use sqlite_items::Items as List;
-
-#[cfg(test)]
-mod tests;

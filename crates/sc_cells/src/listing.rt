@@ -1,15 +1,13 @@
 //! The ground instances of clauses, in order.
 
 ghost use Rattle.std.specs.Prelude.{◌≡◌, ◌≤◌, ◌^◌, ◌++◌, min, IfOk, IfErr, OnOk};
-ghost use Rattle.sc_data.specs.Clause.{width};
+ghost use Rattle.sc_term.specs.Clause.{width};
 ghost use Rattle.sc_cells.specs.Ground.{AreInstances, instance_count, IsCauseOfGround};
 ghost use Rattle.sc_cells.specs.Listing.{instance_with, instances_of, all_instances};
 
 use crate::digits::digits_of;
-use crate::instances::{Ground, GroundError, GroundInstance, MOST_INSTANCES};
-use sc_data::Clause;
-use sc_term::{Mem, full_width};
-use sqlite_items::Items;
+use crate::instances::{Ground, GroundError, GroundInstance};
+use sc_term::{Clause, List, MAX_INSTANCES, Mem, full_width};
 use std::alloc::Global;
 
 /// No more instances than this are counted.
@@ -55,7 +53,7 @@ fn push_instances(
     size: u8,
     place: u32,
     clause: &Clause,
-    instances: &mut Items<GroundInstance>,
+    instances: &mut List<GroundInstance>,
 ) -> Mem<()>
     requires not_empty { 1 ≤ size }
     requires few { size ^ width clause.now ≤ 200000 }
@@ -69,12 +67,12 @@ fn push_instances(
     Ok(())
 }
 
-fn list_instances(alloc: Global, clauses: &[Clause], size: u8) -> Mem<Items<GroundInstance>>
+fn list_instances(alloc: Global, clauses: &[Clause], size: u8) -> Mem<List<GroundInstance>>
     requires not_empty { 1 ≤ size }
     requires few { instance_count clauses.now size ≤ 200000 }
     ensures { IfOk result (λ is. is ≡ all_instances clauses.now size) }
 {
-    let mut instances = Items::new(alloc);
+    let mut instances = List::new(alloc);
     for place in 0..clauses.len() {
         push_instances(alloc, size, place as u32, &clauses[place], &mut instances)?;
     }
@@ -84,7 +82,7 @@ fn list_instances(alloc: Global, clauses: &[Clause], size: u8) -> Mem<Items<Grou
 /// The instances of the clauses over the elements of a size of 1 to 8: in order of the clauses, and those of a clause in
 /// rising order of the elements, variable 0 first (`AreInstances`). `TooWide` comes exactly where there are more than
 /// 200,000, and tells how many, or a billion where there are more. They are counted before any is made.
-pub fn ground(alloc: Global, clauses: &Items<Clause>, size: u8) -> Result<Ground, GroundError>
+pub fn ground(alloc: Global, clauses: &List<Clause>, size: u8) -> Result<Ground, GroundError>
     requires not_empty { 1 ≤ size }
     requires small { size ≤ 8 }
     ensures value { IfOk result (AreInstances clauses.now size) }
@@ -92,7 +90,7 @@ pub fn ground(alloc: Global, clauses: &Items<Clause>, size: u8) -> Result<Ground
     ensures refused { IfErr result (IsCauseOfGround (instance_count clauses.now size)) }
 {
     let count = count_instances(clauses.as_slice(), size);
-    if count > MOST_INSTANCES {
+    if count > MAX_INSTANCES {
         return Err(GroundError::TooWide { count });
     }
     match list_instances(alloc, clauses.as_slice(), size) {

@@ -1,26 +1,26 @@
 -- How many clauses a run has derived, kept and given.
 use Rattle.std.proofs.Common.{◌≡◌, ◌≢◌, ◌∙◌, sym, ap, subst, refl, ℕ, ◌+◌, ◌<◌, ◌≤◌, inl, inr, List, [], ◌∷◌, ◌++◌, length, length-append, Option, Some, None, Bool, true, false, arith}
 use Rattle.std.specs.Prelude.{IsSome}
-use Rattle.sc_data.specs.declared.Clause.{Clause}
-use Rattle.sc_data.specs.declared.Line.{Line}
-use Rattle.sc_data.specs.declared.Numbered.{Numbered}
-use Rattle.sc_steps.specs.declared.derivation.Derived.{Derived}
-use Rattle.sc_reading.specs.Problem.{Stated}
-use Rattle.sc_rules.specs.declared.fate.Fate.TheVariants.{Empty}
-use Rattle.sc_rules.specs.declared.fate.Processed.{Processed}
-use Rattle.sc_rules.specs.declared.row.KeptRow.{KeptRow}
-use Rattle.sc_rules.specs.declared.row.Outcome.{Outcome}
-use Rattle.sc_rules.specs.declared.row.Outcome.TheVariants as outcome
-use Rattle.sc_rules.specs.Book.{Book, next_number, weight_in, with_derived}
-use Rattle.sc_rules.specs.Processing.{with_kept, Sweeps, Processes}
-use Rattle.sc_rules.specs.Start.{OpensBook, Starts}
-use Rattle.sc_rules.specs.Selection.{Seen}
-use Rattle.sc_rules.specs.WorkList.{Item, Finish, Done, Found, TooMany, Works, done, too_many, nothing, found, goes_on}
-use Rattle.sc_rules.specs.Turn.{Run, Infer, Turns, with_given, with_end, outcome_of, goal_of}
-use Rattle.sc_rules.specs.Run.{Goes, GoesOver, IsRun, started}
+use Rattle.sc_term.specs.declared.Clause.{Clause}
+use Rattle.sc_term.specs.declared.Line.{Line}
+use Rattle.sc_term.specs.declared.Numbered.{Numbered}
+use Rattle.sc_steps.specs.declared.derivations.derivation.Derived.{Derived}
+use Rattle.sc_input_rules.specs.Problem.{Stated}
+use Rattle.sc_core_rules.specs.declared.fate.Fate.TheVariants.{Empty}
+use Rattle.sc_core_rules.specs.declared.fate.Processed.{Processed}
+use Rattle.sc_core_rules.specs.declared.row.KeptRow.{KeptRow}
+use Rattle.sc_core_rules.specs.declared.row.Outcome.{Outcome}
+use Rattle.sc_core_rules.specs.declared.row.Outcome.TheVariants as outcome
+use Rattle.sc_core_rules.specs.Book.{Book, next_number, weight_in, with_derived}
+use Rattle.sc_core_rules.specs.Processing.{with_kept, Sweeps, Processes}
+use Rattle.sc_core_rules.specs.Start.{OpensBook, Starts}
+use Rattle.sc_core_rules.specs.Selection.{Seen}
+use Rattle.sc_core_rules.specs.WorkList.{Item, Finish, Done, Found, TooMany, Works, done, too_many, nothing, found, goes_on}
+use Rattle.sc_core_rules.specs.Turn.{Run, Infer, Turns, with_given, with_end, outcome_of, goal_of}
+use Rattle.sc_core_rules.specs.Run.{Goes, GoesOver, IsRun, started}
 use Rattle.sc_core.specs.Counts.{HasKeptAll, IsCounted}
-use Rattle.sc_rules.proofs.ProcessLaws.{Becomes}
-use Rattle.sc_rules.proofs.SoundProcessing.{where_either}
+use Rattle.sc_core_rules.proofs.ProcessLaws.{Becomes}
+use Rattle.sc_core_rules.proofs.SoundProcessing.{where_either}
 
 module _ (problem : Stated) where
   -- ---- processing
@@ -209,3 +209,12 @@ module _ (problem : Stated) where
     where
       none : old.ended ≡ None → ¬ IsSome old.ended
       none e some = let bad : ◌≡◌ {A = Bool} false true = subst IsSome e some in cc
+
+  -- a run that has ended takes one look more
+  pub run_stays : (looks : List Seen) (look : Seen) (run : Run) → IsRun problem looks run → (o : Outcome) → run.ended ≡ Some o → IsRun problem (looks ++ look ∷ []) run
+  run_stays looks look run h o ended = record {
+    book = h.book;
+    goal = h.goal;
+    starts = h.starts;
+    goes = goes_over_more looks look (started h.book h.goal) run run h.goes (inl (subst IsSome (sym ended) refl, refl));
+  }

@@ -1,18 +1,18 @@
 -- A turn is put together from its parts.
 use Rattle.std.proofs.Common.{◌≡◌, ◌∙◌, sym, ap, refl, ℕ, zero, suc, ◌+◌, inl, List, [], ◌∷◌, ◌++◌, length, map, replicate, arith}
 use Rattle.std.specs.List.{All, Contains}
-use Rattle.sc_data.specs.declared.Numbered.{Numbered}
-use Rattle.sc_reading.specs.Problem.{Stated}
+use Rattle.sc_term.specs.declared.Numbered.{Numbered}
+use Rattle.sc_input_rules.specs.Problem.{Stated}
 use Rattle.sc_interp.specs.Versions.{ClaimedStructure, opening}
 use Rattle.sc_interp.specs.Marks.{IsMark}
-use Rattle.sc_rules.specs.declared.row.GivenRow.{GivenRow}
-use Rattle.sc_rules.specs.Book.{Book, IsSound}
-use Rattle.sc_rules.specs.Selection.{Selects, opening_name}
-use Rattle.sc_rules.specs.Sites.{Site, AreSites}
-use Rattle.sc_rules.specs.WorkList.{At, Finish, Works}
-use Rattle.sc_rules.specs.Turn.{Run, Infer, with_given, outcome_of, goal_of}
-use Rattle.sc_rules.proofs.FilterLaws.{in_first, in_second}
-use Rattle.sc_rules.proofs.ProcessLaws.{live_tell}
+use Rattle.sc_core_rules.specs.declared.row.GivenRow.{GivenRow}
+use Rattle.sc_core_rules.specs.Book.{Book, IsSound}
+use Rattle.sc_core_rules.specs.Selection.{Selects, opening_name}
+use Rattle.sc_core_rules.specs.Sites.{Site, AreSites}
+use Rattle.sc_core_rules.specs.WorkList.{At, Finish, Works}
+use Rattle.sc_core_rules.specs.Turn.{Run, Infer, with_given, outcome_of, goal_of}
+use Rattle.sc_core_rules.proofs.FilterLaws.{in_first, in_second}
+use Rattle.sc_core_rules.proofs.ProcessLaws.{live_tell}
 
 -- ---- no version is seen
 

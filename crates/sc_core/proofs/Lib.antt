@@ -3,3 +3,9 @@ pub mod CountLaws
 pub mod InferLaws
 pub mod TurningLaws
 pub mod ProverLaws
+pub mod OverParents
+pub mod ParentLaws
+pub mod UsableLaws
+pub mod ProcessedLaws
+pub mod ItemLaws
+pub mod WorkingLaws

@@ -3,20 +3,20 @@ use Rattle.std.proofs.Common.{◌≡◌, sym, ap, subst, ℕ, ◌+◌, inl, inr,
 use Rattle.std.specs.Prelude.{MatchOption}
 use Rattle.std.specs.List.{AllPairs, Contains}
 use Rattle.std.proofs.Math.ListN.{get_or-append}
-use Rattle.sc_data.specs.declared.Numbered.{Numbered}
-use Rattle.sc_reading.specs.Problem.{Stated}
+use Rattle.sc_term.specs.declared.Numbered.{Numbered}
+use Rattle.sc_input_rules.specs.Problem.{Stated}
 use Rattle.sc_interp.specs.Versions.{ClaimedStructure, opening}
-use Rattle.sc_rules.specs.declared.row.Outcome.{Outcome}
-use Rattle.sc_rules.specs.Selection.{Seen}
-use Rattle.sc_rules.specs.Book.{Book}
-use Rattle.sc_rules.specs.WorkList.{Finish}
-use Rattle.sc_rules.specs.Turn.{Run, Infer, Turns, with_end, with_given}
-use Rattle.sc_rules.proofs.OrderLaws.{at_first}
-use Rattle.sc_rules.proofs.FilterLaws.{in_second}
-use Rattle.sc_core.specs.declared.choosing.Choice.{Choice}
-use Rattle.sc_core.specs.Choice.{IsChosen}
+use Rattle.sc_core_rules.specs.declared.row.Outcome.{Outcome}
+use Rattle.sc_core_rules.specs.Selection.{Seen}
+use Rattle.sc_core_rules.specs.Book.{Book}
+use Rattle.sc_core_rules.specs.WorkList.{Finish}
+use Rattle.sc_core_rules.specs.Turn.{Run, Infer, Turns, with_end, with_given}
+use Rattle.sc_term.proofs.ContainsLaws.{at_first}
+use Rattle.sc_core_rules.proofs.FilterLaws.{in_second}
+use Rattle.sc_core.specs.declared.choosing.GivenChoice.{GivenChoice}
+use Rattle.sc_core.specs.LeastClause.{IsChosen}
 use Rattle.sc_core.specs.State.{none_seen}
-use Rattle.sc_core.specs.Turning.{Stops, IsWorked, IsGiven}
+use Rattle.sc_core.specs.Turning.{Stops, AreWorked, IsGiven}
 use Rattle.sc_core.proofs.InferLaws.{AreParts, infers}
 
 -- the elements of a front are related as those of the whole
@@ -31,9 +31,9 @@ moved_usable book new given e = subst (λ (b : Book). Contains b.usable given) (
 
 -- what is worked in a book that is this one
 pub worked_in : (problem other : Stated) (turn : ℕ) (given : Numbered) (old before new : Book) (finish : Finish) → other ≡ problem → before ≡ old
-    → IsWorked other turn given before new finish → IsWorked problem turn given old new finish
+    → AreWorked other turn given before new finish → AreWorked problem turn given old new finish
 worked_in problem other turn given old before new finish same e h =
-    subst (λ (b : Book). IsWorked problem turn given b new finish) e (subst (λ (p : Stated). IsWorked p turn given before new finish) same h)
+    subst (λ (b : Book). AreWorked problem turn given b new finish) e (subst (λ (p : Stated). AreWorked p turn given before new finish) same h)
 
 pub match_some : {X : Type 0} (o : Option X) (x : X) (A : Type 0) (P : X → Type 0) → o ≡ Some x → MatchOption o A P → P x
 match_some o x A P e h = subst (λ z. MatchOption z A P) e h
@@ -49,7 +49,7 @@ module _ (problem : Stated) (run : Run) where
   goes_turns : (seen : Seen) (new : Run) → Stops problem run None → Infer problem (length run.given + 1) run seen new → Turns problem run seen new
   goes_turns seen new h infer = let room = h.2 in inr (h.0, inr (h.1, inr ((λ many. omega (arith, many, room)), infer)))
 
-  pub given_turns : (lists ratio turn : ℕ) (version : ClaimedStructure) (choice : Choice) (new : Run) → problem.params.pick_given_ratio ≡ ratio → turn ≡ length run.given + 1
+  pub given_turns : (lists ratio turn : ℕ) (version : ClaimedStructure) (choice : GivenChoice) (new : Run) → problem.params.pick_given_ratio ≡ ratio → turn ≡ length run.given + 1
       → version ≡ opening problem.symbols → Stops problem run None → IsChosen version lists ratio turn run.book.sos choice → IsGiven problem turn choice run new
       → Turns problem run (none_seen lists) new
   given_turns lists ratio turn version choice new same_ratio same_turn same_version room chosen given =

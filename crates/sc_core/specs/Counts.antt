@@ -1,9 +1,9 @@
 -- How many clauses a run has derived, kept and given.
 use Rattle.std.specs.Prelude.{◌≡◌, ◌≤◌, ℕ, ◌+◌, Some, None, length}
-use Rattle.sc_reading.specs.Problem.{Stated}
-use Rattle.sc_rules.specs.declared.row.Outcome.TheVariants as outcome
-use Rattle.sc_rules.specs.Book.{Book}
-use Rattle.sc_rules.specs.Turn.{Run}
+use Rattle.sc_input_rules.specs.Problem.{Stated}
+use Rattle.sc_core_rules.specs.declared.row.Outcome.TheVariants as outcome
+use Rattle.sc_core_rules.specs.Book.{Book}
+use Rattle.sc_core_rules.specs.Turn.{Run}
 
 -- as many clauses were kept as were derived
 abbrev pub HasKeptAll : Book → Type 0

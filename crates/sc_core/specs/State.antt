@@ -1,13 +1,16 @@
 -- What the prover is seen as.
-use Rattle.std.specs.Prelude.{◌⊎◌, ℕ, List, [], Bool, true, Option, Some, None, replicate}
-use Rattle.sc_reading.specs.Problem.{Stated}
-use Rattle.sc_rules.specs.declared.row.Outcome.{Outcome}
-use Rattle.sc_rules.specs.declared.row.Outcome.TheVariants as outcome
-use Rattle.sc_rules.specs.Book.{Book}
-use Rattle.sc_rules.specs.Selection.{Seen}
-use Rattle.sc_rules.specs.Turn.{Run}
-use Rattle.sc_rules.specs.Run.{IsRun, started}
-use Rattle.sc_fairness.specs.LeavesInTime.{WasPut, HasTurn, WasGivenBy, IsDeletedBy, last_turn}
+use Rattle.std.specs.Prelude.{◌⊎◌, ◌≤◌, ℕ, List, [], ◌∷◌, ◌++◌, map, length, Bool, true, Option, Some, None, replicate}
+use Rattle.std.specs.List.{AllZip, AllByRecursion}
+use Rattle.sc_input_rules.specs.Problem.{Stated}
+use Rattle.sc_interp.specs.Versions.{ClaimedStructure}
+use Rattle.sc_core_rules.specs.declared.row.GivenRow.{GivenRow}
+use Rattle.sc_core_rules.specs.declared.row.Outcome.{Outcome}
+use Rattle.sc_core_rules.specs.declared.row.Outcome.TheVariants as outcome
+use Rattle.sc_core_rules.specs.Book.{Book}
+use Rattle.sc_core_rules.specs.Selection.{Seen}
+use Rattle.sc_core_rules.specs.Turn.{Run}
+use Rattle.sc_core_rules.specs.Run.{IsRun, started, prefixes}
+use Rattle.sc_core_laws.specs.LeavesInTime.{WasPut, HasTurn, WasGivenBy, IsDeletedBy, last_turn}
 use Rattle.sc_core.specs.declared.end.TurnEnd.{TurnEnd}
 use Rattle.sc_core.specs.declared.end.TurnEnd.TheVariants as end
 
@@ -27,15 +30,31 @@ none_seen lists = replicate lists []
 abbrev pub at_start : Stated → ℕ → Book → Option ℕ → ProverState
 at_start problem lists book goal = record { problem = problem; seen = none_seen lists; run = started book goal; whole = true }
 
--- some looks lead to the run
-abbrev pub IsReached : Stated → Run → Type 0
-IsReached problem run = (looks : List Seen) × IsRun problem looks run
+-- ---- the looks that led to a run
 
--- each clause that was put in sos was given or deleted by its last turn, where the run has that turn
-abbrev pub LeaveInTime : Stated → Run → Type 0
-LeaveInTime problem run =
+-- the look that a row tells: of each finder as many versions as it says
+abbrev pub look_told : Seen → GivenRow → Seen
+look_told seen row = prefixes row.lengths seen
+
+-- one look for each row and, where the run has ended, one more, of all that is seen
+abbrev pub looks_led : Option Outcome → List GivenRow → Seen → List Seen
+looks_led None rows seen = map (look_told seen) rows
+looks_led (Some o) rows seen = map (look_told seen) rows ++ seen ∷ []
+
+-- the numbers are lengths of fronts of the lists, one each
+abbrev pub AreLengthsIn : Seen → GivenRow → Type 0
+AreLengthsIn seen row = AllZip (λ (n : ℕ) (versions : List ClaimedStructure). n ≤ length versions) row.lengths seen
+
+-- the run is that over the looks that its rows tell, each of fronts of what is seen
+pub record IsReached (problem : Stated) (seen : Seen) (run : Run) : Type 0 where
+  pub is_run : IsRun problem (looks_led run.ended run.given seen) run
+  pub told : AllByRecursion (AreLengthsIn seen) run.given
+
+-- each clause that was put in sos was given or deleted by its last turn, where the run over those looks has that turn
+abbrev pub LeaveInTimeSoFar : Stated → Seen → Run → Type 0
+LeaveInTimeSoFar problem seen run =
     (n t : ℕ) → WasPut problem run.book.kept n t → HasTurn run.given (last_turn problem n t)
-    → WasGivenBy run.given n (last_turn problem n t) ⊎ ((looks : List Seen) × IsRun problem looks run × IsDeletedBy problem looks n (last_turn problem n t))
+    → WasGivenBy run.given n (last_turn problem n t) ⊎ IsDeletedBy problem (looks_led run.ended run.given seen) n (last_turn problem n t)
 
 -- what a turn answers: that the run goes on, or how it ended
 abbrev pub end_of : Option Outcome → TurnEnd

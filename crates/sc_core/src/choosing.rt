@@ -1,21 +1,19 @@
 //! The given clause of a turn, with its row.
 
 ghost use Rattle.std.specs.Prelude.{◌≡◌, ◌<◌, [], All, IfOk, MatchOption, replicate};
-ghost use Rattle.sc_data.specs.Clause.{IsCanonical, IsWithinLimits};
+ghost use Rattle.sc_term.specs.Clause.{IsCanonical, IsWithinLimits};
 ghost use Rattle.sc_interp.specs.Marks.{IsMark};
-ghost use Rattle.sc_core.specs.Choice.{IsRowOf, IsChosen};
+ghost use Rattle.sc_core.specs.LeastClause.{IsRowOf, IsChosen};
 
 use crate::selecting::select;
-use sc_data::{Clause, Numbered};
+use sc_core_rules::{Cause, GivenRow};
 use sc_interp::{Assign, Truth, Version, VersionName, truth};
-use sc_rules::{Cause, GivenRow};
-use sc_term::{Mem, copy, width};
-use sqlite_items::Items;
+use sc_term::{Clause, List, Mem, Numbered, copy, width};
 use std::alloc::Global;
 
 /// A copy of the given clause of a turn, and its row.
 #[derive(Drop)]
-pub struct Choice {
+pub struct GivenChoice {
     pub given: Numbered,
     pub row: GivenRow,
 }
@@ -31,11 +29,11 @@ fn mark(alloc: Global, version: &Version, c: &Clause) -> Mem<Truth>
 }
 
 /// So many zeros.
-fn zeros(alloc: Global, count: u32) -> Mem<Items<u32>>
+fn zeros(alloc: Global, count: u32) -> Mem<List<u32>>
     ensures { IfOk result (λ zeros. zeros ≡ replicate count 0) }
 {
     let values = vec![in alloc; 0u32; count as usize]?;
-    Ok(Items::from_vec(values))
+    Ok(List::from_vec(values))
 }
 
 /// The clause as the given one of the turn, with its row under the opening version.
@@ -46,7 +44,7 @@ fn with_row(
     turn: u32,
     p: &Numbered,
     cause: Cause,
-) -> Mem<Choice>
+) -> Mem<GivenChoice>
     requires canonical { IsCanonical p.now.clause }
     requires within { IsWithinLimits p.now.clause }
     ensures { IfOk result (λ choice. IsRowOf opening.now lists turn p.now cause choice) }
@@ -68,7 +66,7 @@ fn with_row(
         truth,
         lengths,
     };
-    Ok(Choice { given, row })
+    Ok(GivenChoice { given, row })
 }
 
 /// The given clause of the turn under the opening version, where none of so many finders has published one (`IsChosen`).
@@ -80,7 +78,7 @@ pub fn choose(
     ratio: u32,
     turn: u32,
     sos: &[Numbered],
-) -> Mem<Option<Choice>>
+) -> Mem<Option<GivenChoice>>
     requires ratio { ratio < u32.MAX }
     requires canonical { All (λ p. IsCanonical p.clause) sos.now }
     requires within { All (λ p. IsWithinLimits p.clause) sos.now }

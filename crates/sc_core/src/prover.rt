@@ -1,34 +1,33 @@
 //! The prover.
 
 ghost use Rattle.std.specs.Prelude.{◌≡◌, ◌≢◌, ◌≤◌, ◌<◌, ℕ, true, false, None, Some, Option as AnOption, IfOk, OnOk, OnErr, IfSome, IfNone, option_map};
-ghost use Rattle.sc_data.specs.Proof.{IsProof};
-ghost use Rattle.sc_data.specs.Refuted.{IsRefuted};
+ghost use Rattle.sc_term.specs.Proof.{IsProof};
+ghost use Rattle.sc_term.specs.Refuted.{IsRefuted};
 ghost use Rattle.sc_steps.specs.Splice.{IsSplice};
 ghost use Rattle.sc_interp.specs.Versions as versions;
-ghost use Rattle.sc_reading.specs.WellFormed.{IsProblem};
-ghost use Rattle.sc_rules.specs.Book.{Book as ABook};
-ghost use Rattle.sc_rules.specs.Start.{Starts};
-ghost use Rattle.sc_rules.specs.Turn.{Turns};
-ghost use Rattle.sc_rules.specs.declared.row.Outcome.TheVariants as outcome;
+ghost use Rattle.sc_input_rules.specs.WellFormed.{IsProblem};
+ghost use Rattle.sc_core_rules.specs.Book.{Book as ABook};
+ghost use Rattle.sc_core_rules.specs.Start.{Starts};
+ghost use Rattle.sc_core_rules.specs.Turn.{Turns};
+ghost use Rattle.sc_core_rules.specs.declared.row.Outcome.TheVariants as outcome;
 ghost use Rattle.sc_core.specs.Counts.{IsCounted};
-ghost use Rattle.sc_core.specs.State.{at_start, IsReached, LeaveInTime};
+ghost use Rattle.sc_core.specs.State.{at_start, IsReached, LeaveInTimeSoFar};
 ghost use Rattle.sc_core.specs.State.{end_of as spec_end_of};
 
 use crate::end::TurnEnd;
 use crate::turning::{Running, turn};
-use sc_data::Line;
-use sc_fairness::clauses_leave_in_time;
+use sc_core_laws::clauses_leave_in_time;
+use sc_core_rules::{GivenRow, KeptRow, Outcome};
+use sc_input_rules::Problem;
 use sc_interp::Version;
 use sc_keep::Book;
-use sc_problem::Problem;
-use sc_rules::{GivenRow, KeptRow, Outcome};
-use sc_term::Mem;
-use sqlite_items::Items;
+use sc_term::{Line, List, Mem};
 use std::alloc::Global;
 use std::marker::Model;
 
 /// The prover of a problem. Contracts see the problem, the versions that it has seen of each finder, its run and whether
-/// it is whole (`ProverState`). While it is whole, some looks lead to its run (`IsReached`).
+/// it is whole (`ProverState`). While it is whole, its run is that over the looks that its
+/// rows tell (`IsReached`).
 #[derive(Drop)]
 pub struct Prover {
     alloc: Global,
@@ -40,7 +39,7 @@ pub struct Prover {
 
 impl Model for Prover {
     ghost use Rattle.std.specs.Coded.{codes};
-    ghost use Rattle.sc_data.specs.contracts.Term as term;
+    ghost use Rattle.sc_term.specs.contracts.Term as term;
     ghost use Rattle.sc_core.specs.State.{ProverState};
     ghost use Rattle.sc_core.specs.Prover.{IsProver, state_of};
 
@@ -94,7 +93,7 @@ impl Prover {
             lists,
             running: Running {
                 book,
-                given: Items::new(alloc),
+                given: List::new(alloc),
                 ended,
                 goal,
             },
@@ -153,30 +152,30 @@ impl Prover {
     /// (`IsCounted`).
     pub fn keeps(&self)
         ensures problem { IsProblem self.now.problem }
-        ensures reached { self.now.whole ≡ true → IsReached self.now.problem self.now.run }
+        ensures reached { self.now.whole ≡ true → IsReached self.now.problem self.now.seen self.now.run }
         ensures counted { self.now.whole ≡ true → IsCounted self.now.problem self.now.run }
     {
         self.running.book.keeps();
     }
 
-    /// The law that each clause that was put in the set of support leaves it in time (`LeaveInTime`), whatever the
-    /// problem is, while the prover is whole.
+    /// The law that each clause that was put in the set of support leaves it in time, whatever the problem is, while the
+    /// prover is whole (`LeaveInTimeSoFar`).
     pub fn leaves_in_time(&self)
-        ensures { self.now.whole ≡ true → LeaveInTime self.now.problem self.now.run }
+        ensures { self.now.whole ≡ true → LeaveInTimeSoFar self.now.problem self.now.seen self.now.run }
     {
         let _ = &self.whole;
         clauses_leave_in_time();
     }
 
     /// The rows of the given clauses, in order.
-    pub fn given(&self) -> &Items<GivenRow>
+    pub fn given(&self) -> &List<GivenRow>
         ensures { result.now ≡ self.now.run.given }
     {
         &self.running.given
     }
 
     /// The rows of the kept clauses, in order.
-    pub fn kept(&self) -> &Items<KeptRow>
+    pub fn kept(&self) -> &List<KeptRow>
         ensures { result.now ≡ self.now.run.book.kept }
     {
         self.running.book.kept()
@@ -191,7 +190,7 @@ impl Prover {
 
     /// The proof of a run that ended with one: the derivations of the empty clause and of all that it needs, put
     /// together (`IsSplice`).
-    pub fn proof(&self) -> Mem<Items<Line>>
+    pub fn proof(&self) -> Mem<List<Line>>
         requires whole { self.now.whole ≡ true }
         requires ended { self.now.run.ended ≡ Some outcome.Proof }
         ensures splice { IfOk result (λ lines. (goal : ℕ) × (self.now.run.goal ≡ Some goal) × IsSplice self.now.problem.inputs self.now.run.book.derived goal lines) }
@@ -205,7 +204,7 @@ impl Prover {
                 Ok(lines)
             }
             // There is one.
-            None => Ok(Items::new(self.alloc)),
+            None => Ok(List::new(self.alloc)),
         }
     }
 }

@@ -1,13 +1,12 @@
 //! The choice of the given clause.
 
 ghost use Rattle.std.specs.Prelude.{◌≡◌, ◌<◌, ◌↔◌, ◌^◌, ◌∷◌, [], All, IsTrue, IsSomeAnd, IfSome, IfNone, slice_get, length};
-ghost use Rattle.sc_data.specs.Clause.{IsWithinLimits, weight as spec_weight};
-ghost use Rattle.sc_rules.specs.Order.{IsBefore};
-ghost use Rattle.sc_core.specs.Choice.{heaviness, IsLesser, IsLeastAt, IsSelected};
+ghost use Rattle.sc_term.specs.Clause.{IsWithinLimits, weight as spec_weight};
+ghost use Rattle.sc_core_rules.specs.Order.{IsBefore};
+ghost use Rattle.sc_core.specs.LeastClause.{heaviness, IsLesser, IsLeastAt, IsSelected, IsCauseIn};
 
-use sc_data::Numbered;
-use sc_rules::Cause;
-use sc_term::weight;
+use sc_core_rules::Cause;
+use sc_term::{Numbered, weight};
 
 /// A clause by its place in a list, with what it is compared by: its heaviness, and then its number.
 #[derive(Clone, Copy, Debug)]
@@ -34,25 +33,29 @@ fn lesser(best: Option<Candidate>, next: Candidate) -> Candidate
     }
 }
 
-/// What decides between clauses before their numbers: their weight, or nothing where the oldest is looked for.
-fn heaviness_of(oldest: bool, p: &Numbered) -> u32
+/// What decides between clauses before their numbers: nothing where one is chosen by age, and otherwise their weight.
+fn heaviness_of(cause: Cause, p: &Numbered) -> u32
     requires { IsWithinLimits p.now.clause }
-    ensures { result ≡ heaviness oldest p.now }
+    ensures { result ≡ heaviness cause p.now }
 {
-    if oldest { 0 } else { weight(&p.clause) }
+    match cause {
+        Cause::Age => 0,
+        Cause::False | Cause::Weight => weight(&p.clause),
+    }
 }
 
-/// The place of the oldest clause, or else of the lightest, ties to the lesser number. Each is looked at once.
-fn least(oldest: bool, ps: &[Numbered]) -> Option<usize>
+/// The place of the oldest clause, where one is chosen by age, or else of the lightest, ties to the lesser number. Each is
+/// looked at once.
+fn least(cause: Cause, ps: &[Numbered]) -> Option<usize>
     requires { All (λ p. IsWithinLimits p.clause) ps.now }
-    ensures { IsLeastAt oldest ps.now result }
+    ensures { IsLeastAt cause ps.now result }
 {
     let mut best: Option<Candidate> = None;
     for at in 0..ps.len() {
         let p = &ps[at];
         let next = Candidate {
             at,
-            heaviness: heaviness_of(oldest, p),
+            heaviness: heaviness_of(cause, p),
             number: p.number,
         };
         best = Some(lesser(best, next));
@@ -70,6 +73,19 @@ pub struct Selected {
     pub cause: Cause,
 }
 
+/// Why a clause is given in the turn under the opening version: by age where `ratio` + 1 divides it, and otherwise by
+/// weight.
+fn cause_in(ratio: u32, turn: u32) -> Cause
+    requires { ratio < u32.MAX }
+    ensures { IsCauseIn ratio turn result }
+{
+    if turn % (ratio + 1) == 0 {
+        Cause::Age
+    } else {
+        Cause::Weight
+    }
+}
+
 /// The clause of sos that is given in this turn under the opening version (`Selects`): the oldest where `ratio` + 1
 /// divides the turn, and otherwise the lightest, ties to the lesser number. None exactly where sos is empty. Each clause
 /// is looked at once.
@@ -79,10 +95,7 @@ pub fn select(ratio: u32, turn: u32, sos: &[Numbered]) -> Option<Selected>
     ensures none { IfNone result (sos.now ≡ []) }
     ensures some { IfSome result (λ chosen. IsSomeAnd (slice_get sos.now chosen.at) (λ p. IsSelected sos.now ratio turn p chosen.cause)) }
 {
-    let oldest = turn % (ratio + 1) == 0;
-    let at = least(oldest, sos)?;
-    Some(Selected {
-        at,
-        cause: if oldest { Cause::Age } else { Cause::Weight },
-    })
+    let cause = cause_in(ratio, turn);
+    let at = least(cause, sos)?;
+    Some(Selected { at, cause })
 }

@@ -2,29 +2,28 @@
 
 ghost use Rattle.std.specs.Prelude.{◌≡◌, ◌+◌, ◌<◌, ◌^◌, true, None, IfOk, OnOk, Contains, length};
 ghost use Rattle.sc_interp.specs.Versions as versions;
-ghost use Rattle.sc_rules.specs.Turn as turns;
-ghost use Rattle.sc_rules.specs.Turn.{Turns};
-ghost use Rattle.sc_work.specs.Finish.{finish_of};
+ghost use Rattle.sc_core_rules.specs.Turn as turns;
+ghost use Rattle.sc_core_rules.specs.Turn.{Turns};
+ghost use Rattle.sc_core.specs.Finish.{finish_of};
 ghost use Rattle.sc_core.specs.State.{none_seen};
 ghost use Rattle.sc_core.specs.Counts.{IsCounted};
-ghost use Rattle.sc_core.specs.Turning.{run_of, Stops, IsWorked, IsGiven};
+ghost use Rattle.sc_core.specs.Turning.{run_of, Stops, AreWorked, IsGiven};
 
-use crate::choosing::{Choice, choose};
-use sc_data::Numbered;
+use crate::choosing::{GivenChoice, choose};
+use crate::finish::Finish;
+use crate::working::work;
+use sc_core_rules::{GivenRow, Outcome};
+use sc_core_sites::sites;
 use sc_interp::Version;
 use sc_keep::Book;
-use sc_rules::{GivenRow, Outcome};
-use sc_sites::sites;
-use sc_term::Mem;
-use sc_work::{Finish, work};
-use sqlite_items::Items;
+use sc_term::{List, MAX_WORK, Mem, Numbered};
 use std::alloc::Global;
 
 /// A run so far: the book, the rows of the given clauses, how it ended, and the number of the empty clause.
 #[derive(Drop)]
 pub struct Running {
     pub book: Book,
-    pub given: Items<GivenRow>,
+    pub given: List<GivenRow>,
     pub ended: Option<Outcome>,
     pub goal: Option<u32>,
 }
@@ -71,23 +70,23 @@ fn goal_of(finish: Finish) -> Option<u32>
     }
 }
 
-/// Works all sites of the given clause, which is usable (`IsWorked`).
+/// Works all sites of the given clause, which is usable (`AreWorked`).
 fn work_all(alloc: Global, book: &mut Book, given: &Numbered, turn: u32) -> Mem<Finish>
     requires whole { book.old.whole ≡ true }
     requires listed { Contains book.old.book.usable given.now }
     requires few { length book.old.problem.inputs + length book.old.book.derived + 200002 < 2 ^ 32 }
-    ensures worked { IfOk result (λ finish. IsWorked book.old.problem turn given.now book.old.book book.new.book (finish_of finish)) }
+    ensures worked { IfOk result (λ finish. AreWorked book.old.problem turn given.now book.old.book book.new.book (finish_of finish)) }
     ensures problem { book.new.problem ≡ book.old.problem }
     ensures whole { OnOk result (book.new.whole ≡ true) }
 {
     book.keeps();
-    let listed = sites(alloc, book.flags(), given, book.usable(), 100_001)?;
+    let listed = sites(alloc, book.flags(), given, book.usable(), MAX_WORK + 1)?;
     let finish = work(alloc, book, given, &listed, turn)?;
     Ok(finish)
 }
 
 /// Gives the chosen clause: its row is written, it moves to usable, and all its sites are worked (`AreParts`).
-fn give(alloc: Global, running: &mut Running, choice: Choice, turn: u32) -> Mem<()>
+fn give(alloc: Global, running: &mut Running, choice: GivenChoice, turn: u32) -> Mem<()>
     requires whole { running.old.book.whole ≡ true }
     requires listed { Contains running.old.book.book.sos choice.given }
     requires few { length running.old.book.problem.inputs + length running.old.book.book.derived + 200002 < 2 ^ 32 }

@@ -1,13 +1,13 @@
 -- An equation becomes a demodulator where its sides decrease.
 use Rattle.std.proofs.Common.{◌≡◌, ◌∙◌, sym, ap, subst, ◌+◌, ◌<◌, ◌↔◌, List, sum, map, Bool, IsTrue, arith}
-use Rattle.sc_data.specs.declared.Term.{Term}
-use Rattle.sc_data.specs.declared.Literal.{Literal}
-use Rattle.sc_data.specs.declared.Clause.{Clause}
-use Rattle.sc_data.specs.Term.{term_weight}
-use Rattle.sc_data.specs.Clause.{weight, literal_weight}
-use Rattle.sc_rules.specs.Paramodulation.{IsCompound}
-use Rattle.sc_rules.specs.Rewriting.{IsEquation, BecomesDemodulator}
-use Rattle.sc_rules.proofs.SimplifyLaws.{same_sides}
+use Rattle.sc_term.specs.declared.Term.{Term}
+use Rattle.sc_term.specs.declared.Literal.{Literal}
+use Rattle.sc_term.specs.declared.Clause.{Clause}
+use Rattle.sc_term.specs.Term.{term_weight}
+use Rattle.sc_term.specs.Clause.{weight, literal_weight}
+use Rattle.sc_core_rules.specs.Paramodulation.{IsCompound}
+use Rattle.sc_core_rules.specs.Rewriting.{IsEquation, BecomesDemodulator}
+use Rattle.sc_core_rules.proofs.SimplifyLaws.{same_sides}
 use Rattle.sc_demod.specs.Becoming.{AreDecreasing}
 use Rattle.sc_demod.specs.Counting.{OccursNoMore}
 

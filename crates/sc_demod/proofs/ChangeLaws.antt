@@ -2,21 +2,21 @@
 use Rattle.std.proofs.Common.{◌≡◌, ◌∙◌, sym, ap, subst, ℕ, ◌<◌, ◌⊎◌, inl, inr, List, [], ◌∷◌, ◌++◌, length, get_or, Some}
 use Rattle.std.specs.List.{All, AllPairs, Contains}
 use Rattle.std.proofs.lemmas.List.{get_or_default}
-use Rattle.sc_data.specs.declared.Term.{Term}
-use Rattle.sc_data.specs.declared.Clause.{Clause}
-use Rattle.sc_data.specs.declared.Line.{Line}
-use Rattle.sc_data.specs.declared.Numbered.{Numbered}
-use Rattle.sc_data.specs.declared.Step.TheVariants.{Para}
-use Rattle.sc_data.specs.declared.Side.TheVariants.{Left}
-use Rattle.sc_data.specs.Term.{term_instance}
-use Rattle.sc_data.specs.Clause.{width, instance, IsWithinLimits}
+use Rattle.sc_term.specs.declared.Term.{Term}
+use Rattle.sc_term.specs.declared.Clause.{Clause}
+use Rattle.sc_term.specs.declared.Line.{Line}
+use Rattle.sc_term.specs.declared.Numbered.{Numbered}
+use Rattle.sc_term.specs.declared.Step.TheVariants.{Para}
+use Rattle.sc_term.specs.declared.Side.TheVariants.{Left}
+use Rattle.sc_term.specs.Term.{term_instance}
+use Rattle.sc_term.specs.Clause.{width, instance, IsWithinLimits}
 use Rattle.sc_steps.specs.Derivation.{last_clause}
-use Rattle.sc_rules.specs.Derivation.{AddsPart, AreTermsTo}
-use Rattle.sc_rules.specs.Rewriting.{IsEquation, IsDemodulator}
-use Rattle.sc_rules.proofs.FilterLaws.{in_either}
-use Rattle.sc_rules.proofs.NestLaws.{pairs_append}
-use Rattle.sc_rules.proofs.Enumerations.{in_one, pairs_of_one}
-use Rattle.sc_rules.proofs.SimplifyLaws.{same_sides}
+use Rattle.sc_core_rules.specs.Derivation.{AddsPart, AreTermsTo}
+use Rattle.sc_core_rules.specs.Rewriting.{IsEquation, IsDemodulator}
+use Rattle.sc_core_rules.proofs.FilterLaws.{in_either}
+use Rattle.sc_core_rules.proofs.NestLaws.{pairs_append}
+use Rattle.sc_core_rules.proofs.Enumerations.{in_one, pairs_of_one}
+use Rattle.sc_core_rules.proofs.SimplifyLaws.{same_sides}
 use Rattle.sc_demod.specs.Finding.{FindsIn}
 use Rattle.sc_demod.specs.Rewriting.{AreDemods, AllAgree, IsPutIn, IsChange, IsIrreducible, IsRewritten}
 use Rattle.sc_demod.proofs.RewriteLaws.{fit_width, terms_of_fit, value_of_fit}

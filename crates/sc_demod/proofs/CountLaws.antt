@@ -3,11 +3,11 @@ use Rattle.std.proofs.Common.{◌≡◌, ◌∙◌, sym, ap, subst, refl, ℕ, z
 use Rattle.std.specs.List.{AllByRecursion}
 use Rattle.std.proofs.lemmas.Bool.{eqb-true}
 use Rattle.std.proofs.lemmas.List.Sums.{sum_by-append, sum_by-cons, count_by-le-length}
-use Rattle.sc_data.specs.declared.Term.{Term}
-use Rattle.sc_data.specs.Term.{joined, term_weight, term_variables, weight_step}
-use Rattle.sc_data.proofs.TermLaws.{term_ind, fold-Var, weight-App}
-use Rattle.sc_data.proofs.TermSteps.{variables-Var, variables-App}
-use Rattle.sc_data.proofs.SubstitutionLaws.{all_split}
+use Rattle.sc_term.specs.declared.Term.{Term}
+use Rattle.sc_term.specs.Term.{joined, term_weight, term_variables, weight_step}
+use Rattle.sc_term.proofs.TermLaws.{term_ind, fold-Var, weight-App}
+use Rattle.sc_term.proofs.TermSteps.{variables-Var, variables-App}
+use Rattle.sc_term.proofs.SubstitutionLaws.{all_split}
 use Rattle.sc_unify.proofs.MatchingLaws.{variables-more}
 use Rattle.sc_demod.specs.Counting.{OccursNoMore}
 

@@ -5,28 +5,28 @@ use Rattle.std.specs.List.{AllWithin, AllPairs, Contains, list_any, fold}
 use Rattle.std.proofs.lemmas.Bool.{eqb-true}
 use Rattle.std.proofs.lemmas.List.{append-nil}
 use Rattle.std.proofs.lemmas.List.Sums.{sum_by-cons}
-use Rattle.sc_data.specs.declared.Term.{Term}
-use Rattle.sc_data.specs.declared.Literal.{Literal}
-use Rattle.sc_data.specs.declared.Clause.{Clause}
-use Rattle.sc_data.specs.declared.Line.{Line}
-use Rattle.sc_data.specs.declared.Numbered.{Numbered}
-use Rattle.sc_data.specs.declared.Step.TheVariants.{Resolve}
-use Rattle.sc_data.specs.Numbering.{numbered, without}
-use Rattle.sc_data.specs.Term.{value_of, joined, largest, term_variables}
-use Rattle.sc_data.specs.Clause.{weight, depth, literal_weight, literal_depth, width, literal_width, literal_instance, variables}
-use Rattle.sc_data.specs.Refuted.{atom_of}
-use Rattle.sc_data.specs.Proof.{AreSteps, Follows, clause_of, IsResolvent, AreOpposite}
+use Rattle.sc_term.specs.declared.Term.{Term}
+use Rattle.sc_term.specs.declared.Literal.{Literal}
+use Rattle.sc_term.specs.declared.Clause.{Clause}
+use Rattle.sc_term.specs.declared.Line.{Line}
+use Rattle.sc_term.specs.declared.Numbered.{Numbered}
+use Rattle.sc_term.specs.declared.Step.TheVariants.{Resolve}
+use Rattle.sc_term.specs.Numbering.{numbered, without}
+use Rattle.sc_term.specs.Term.{value_of, joined, largest, term_variables}
+use Rattle.sc_term.specs.Clause.{weight, depth, literal_weight, literal_depth, width, literal_width, literal_instance, variables}
+use Rattle.sc_term.specs.Refuted.{atom_of}
+use Rattle.sc_term.specs.Proof.{AreSteps, Follows, clause_of, IsResolvent, AreOpposite}
 use Rattle.sc_steps.specs.Derivation.{last_clause}
 use Rattle.sc_steps.proofs.LineLaws.{number_within, some_so, clause_of_end}
 use Rattle.sc_steps.proofs.ListLaws.{some_and}
 use Rattle.sc_unify.specs.Matching.{IsMatch, HasNoMatch}
-use Rattle.sc_rules.specs.Order.{IsLeast}
-use Rattle.sc_rules.specs.Rewriting.{number_of}
-use Rattle.sc_rules.specs.Simplification.{Removes, IsRemovable, DeletesOnce}
-use Rattle.sc_rules.specs.Derivation.{AddsPart, AreTermsTo}
-use Rattle.sc_rules.proofs.NumberLaws.{numbered-suc}
-use Rattle.sc_rules.proofs.OrderLaws.{later}
-use Rattle.sc_rules.proofs.CheckLaws.{part_checks, adds_checks}
+use Rattle.sc_core_rules.specs.Order.{IsLeast}
+use Rattle.sc_core_rules.specs.Rewriting.{number_of}
+use Rattle.sc_core_rules.specs.Simplification.{Removes, IsRemovable, DeletesOnce}
+use Rattle.sc_core_rules.specs.Derivation.{AddsPart, AreTermsTo}
+use Rattle.sc_core_rules.proofs.NumberLaws.{numbered-suc}
+use Rattle.sc_term.proofs.ContainsLaws.{later}
+use Rattle.sc_core_rules.proofs.CheckLaws.{part_checks, adds_checks}
 use Rattle.sc_demod.specs.Deleting.{IsRemoval, RemovesNone, opposite, IsCut}
 use Rattle.sc_demod.specs.Standing.{Agrees}
 use Rattle.sc_demod.proofs.FindLaws.{number_got}

@@ -2,14 +2,14 @@
 use Rattle.std.proofs.Common.{ℕ, List}
 use Rattle.std.specs.List.{Contains}
 use Rattle.std.proofs.lemmas.List.Sorted.{Contains-permutation, IsPermutation-sym}
-use Rattle.sc_data.specs.declared.Clause.{Clause}
-use Rattle.sc_data.specs.declared.Line.{Line}
-use Rattle.sc_data.specs.declared.Numbered.{Numbered}
-use Rattle.sc_data.specs.Numbering.{numbered}
+use Rattle.sc_term.specs.declared.Clause.{Clause}
+use Rattle.sc_term.specs.declared.Line.{Line}
+use Rattle.sc_term.specs.declared.Numbered.{Numbered}
+use Rattle.sc_term.specs.Numbering.{numbered}
 use Rattle.sc_steps.proofs.ListLaws.{some_and}
 use Rattle.sc_steps.proofs.LineLaws.{some_so}
-use Rattle.sc_rules.specs.Order.{Exhausts, ends, goes}
-use Rattle.sc_rules.specs.Simplification.{Removes, IsRemovable, DeletesOnce}
+use Rattle.sc_core_rules.specs.Order.{Exhausts, ends, goes}
+use Rattle.sc_core_rules.specs.Simplification.{Removes, IsRemovable, DeletesOnce}
 use Rattle.sc_resolve.specs.ByNumber.{AreByNumber}
 use Rattle.sc_demod.specs.Standing.{ChecksWith, KeepsChecking}
 

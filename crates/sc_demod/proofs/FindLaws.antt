@@ -1,18 +1,18 @@
 -- The first redex of a term, of its arguments and of a clause.
 use Rattle.std.proofs.Common.{◌≡◌, ◌∙◌, sym, ap, subst, refl, ℕ, zero, suc, ◌+◌, ◌-◌, ◌<◌, inl, inr, List, [], ◌∷◌, length, get_or, slice_get, Result, Ok, Err, Option, Some, None, IfOk, MatchOption, arith}
 use Rattle.std.specs.List.{AllWithin}
-use Rattle.sc_data.specs.declared.SymId.{SymId}
-use Rattle.sc_data.specs.declared.Term.{Term, Var}
-use Rattle.sc_data.specs.declared.Term.TheVariants.{App}
-use Rattle.sc_data.specs.declared.Literal.{Literal}
-use Rattle.sc_data.specs.declared.Clause.{Clause}
-use Rattle.sc_data.specs.declared.Numbered.{Numbered}
-use Rattle.sc_data.specs.Numbering.{numbered}
-use Rattle.sc_data.specs.Path.{IsSubtermAt}
-use Rattle.sc_data.proofs.TermLaws.{App-injective}
+use Rattle.sc_term.specs.declared.SymId.{SymId}
+use Rattle.sc_term.specs.declared.Term.{Term, Var}
+use Rattle.sc_term.specs.declared.Term.TheVariants.{App}
+use Rattle.sc_term.specs.declared.Literal.{Literal}
+use Rattle.sc_term.specs.declared.Clause.{Clause}
+use Rattle.sc_term.specs.declared.Numbered.{Numbered}
+use Rattle.sc_term.specs.Numbering.{numbered}
+use Rattle.sc_term.specs.Path.{IsSubtermAt}
+use Rattle.sc_term.proofs.TermLaws.{App-injective}
 use Rattle.sc_steps.proofs.LineLaws.{number_at, number_within}
 use Rattle.sc_steps.proofs.ListLaws.{at_number}
-use Rattle.sc_rules.specs.Rewriting.{Fits, IsRedex, IsFirstRedex, IsBeforeInPostOrder}
+use Rattle.sc_core_rules.specs.Rewriting.{Fits, IsRedex, IsFirstRedex, IsBeforeInPostOrder}
 use Rattle.sc_demod.specs.declared.find.Redex.{Redex}
 use Rattle.sc_demod.specs.Fitting.{IsFirstFit, FitsNone}
 use Rattle.sc_demod.specs.Finding.{IsWithin, IsReducible, FindsNone, Finds, FindsIn, FindsNoneIn}

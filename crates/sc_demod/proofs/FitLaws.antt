@@ -2,17 +2,17 @@
 use Rattle.std.proofs.Common.{◌∙◌, sym, ap, List, get_or, Result, Ok, Err, Option, Some, None, IfOk, MatchOption, nat_eq, arith}
 use Rattle.std.specs.List.{list_any}
 use Rattle.std.proofs.lemmas.List.{append-nil}
-use Rattle.sc_data.specs.declared.Term.{Term}
-use Rattle.sc_data.specs.declared.Numbered.{Numbered}
-use Rattle.sc_data.specs.Term.{term_variables, term_instance, value_of}
-use Rattle.sc_data.specs.Refuted.{Atom, atom_of}
-use Rattle.sc_rules.specs.Paramodulation.{atom_with}
-use Rattle.sc_rules.specs.Rewriting.{IsEquation, Fits}
-use Rattle.sc_rules.proofs.SimplifyLaws.{same_sides}
+use Rattle.sc_term.specs.declared.Term.{Term}
+use Rattle.sc_term.specs.declared.Numbered.{Numbered}
+use Rattle.sc_term.specs.Term.{term_variables, term_instance, value_of}
+use Rattle.sc_term.specs.Refuted.{Atom, atom_of}
+use Rattle.sc_core_rules.specs.Paramodulation.{atom_with}
+use Rattle.sc_core_rules.specs.Rewriting.{IsEquation, Fits}
+use Rattle.sc_core_rules.proofs.SimplifyLaws.{same_sides}
 use Rattle.sc_unify.specs.Matching.{IsMatch, HasNoMatch}
-use Rattle.sc_demod.specs.Fitting.{IsFit}
+use Rattle.sc_demod.specs.Fitting.{FitsBy}
 
-pub is_fit : (d : Numbered) (s left right : Term) (terms : List Term) → IsEquation d.clause left right → IsMatch (atom_with left) (atom_with s) terms → IsFit d s terms
+pub is_fit : (d : Numbered) (s left right : Term) (terms : List Term) → IsEquation d.clause left right → IsMatch (atom_with left) (atom_with s) terms → FitsBy d s terms
 is_fit d s left right terms e h = record {
   left = left;
   right = right;
@@ -29,7 +29,7 @@ no_fit d s left right e none f =
 
 pub fits_where : {E : Type 0} (r : Result (Option (List Term)) E) (d : Numbered) (s left right : Term) → IsEquation d.clause left right
     → IfOk r (λ found. MatchOption found (HasNoMatch (atom_with left) (atom_with s)) (IsMatch (atom_with left) (atom_with s)))
-    → IfOk r (λ found. MatchOption found (¬ Fits d s) (IsFit d s))
+    → IfOk r (λ found. MatchOption found (¬ Fits d s) (FitsBy d s))
 fits_where (Err x) d s left right e h = tt
 fits_where (Ok None) d s left right e h = no_fit d s left right e h
 fits_where (Ok (Some terms)) d s left right e h = is_fit d s left right terms e h

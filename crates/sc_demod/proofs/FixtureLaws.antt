@@ -1,14 +1,14 @@
 -- One `input` line checks over the clause that it names.
 use Rattle.std.proofs.Common.{◌≡◌, ◌∙◌, sym, ap, subst, refl, ◌⊎◌, inl, inr, List, [], ◌∷◌, ◌++◌, Some, arith}
 use Rattle.std.specs.List.{Contains}
-use Rattle.sc_data.specs.declared.Clause.{Clause}
-use Rattle.sc_data.specs.declared.Line.{Line}
-use Rattle.sc_data.specs.declared.Numbered.{Numbered}
-use Rattle.sc_data.specs.declared.Step.TheVariants.{Input}
-use Rattle.sc_data.specs.Numbering.{numbered}
-use Rattle.sc_data.specs.Proof.{AreSteps}
+use Rattle.sc_term.specs.declared.Clause.{Clause}
+use Rattle.sc_term.specs.declared.Line.{Line}
+use Rattle.sc_term.specs.declared.Numbered.{Numbered}
+use Rattle.sc_term.specs.declared.Step.TheVariants.{Input}
+use Rattle.sc_term.specs.Numbering.{numbered}
+use Rattle.sc_term.specs.Proof.{AreSteps}
 use Rattle.sc_steps.proofs.LineLaws.{steps_push}
-use Rattle.sc_rules.proofs.Enumerations.{in_one, in_two}
+use Rattle.sc_core_rules.proofs.Enumerations.{in_one, in_two}
 use Rattle.sc_demod.specs.Standing.{AllStand, ChecksWith}
 
 pub checks_two : (start ps : List Numbered) (d : Numbered) (c : Clause) (lines : List Line) → start ≡ [] → ps ≡ start ++ d ∷ [] → d.number ≡ 1 → lines ≡ record { step = Input 2; clause = c } ∷ [] → ChecksWith ps lines

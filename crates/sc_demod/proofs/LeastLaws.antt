@@ -2,10 +2,10 @@
 use Rattle.std.proofs.Common.{◌≡◌, ◌∙◌, sym, ap, subst, ℕ, ◌<◌, ◌⊎◌, inl, inr, List, length, get_or, arith}
 use Rattle.std.proofs.lemmas.List.{get_or_default}
 use Rattle.std.specs.List.{AllWithin, AllPairs, Contains}
-use Rattle.sc_data.specs.declared.Numbered.{Numbered}
-use Rattle.sc_rules.specs.Order.{IsBefore, IsLeast}
-use Rattle.sc_rules.specs.Rewriting.{number_of}
-use Rattle.sc_rules.proofs.DerivationLaws.{compared}
+use Rattle.sc_term.specs.declared.Numbered.{Numbered}
+use Rattle.sc_core_rules.specs.Order.{IsBefore, IsLeast}
+use Rattle.sc_core_rules.specs.Rewriting.{number_of}
+use Rattle.sc_core_rules.proofs.DerivationLaws.{compared}
 
 pub least_of_first : (P : Numbered → Type 0) (ps : List Numbered) (i : ℕ) (d : Numbered) → AllPairs (λ p q. p.number < q.number) ps → i < length ps → d ≡ get_or ps i d → P d
     → AllWithin (λ p. ¬ P p) ps 0 i → IsLeast number_of P ps d

@@ -1,16 +1,16 @@
 -- What is flipped checks where it checked before.
 use Rattle.std.proofs.Common.{◌≡◌, sym, subst, List, inl, inr, length, Result, Ok, Err, IfOk, Option, Some, None}
 use Rattle.std.specs.Prelude.{IsSomeAnd}
-use Rattle.sc_data.specs.declared.Clause.{Clause}
-use Rattle.sc_data.specs.declared.Line.{Line}
-use Rattle.sc_data.specs.declared.Step.TheVariants.{Flip}
-use Rattle.sc_data.specs.Proof.{AreSteps}
-use Rattle.sc_steps.specs.declared.made.Made.{Made}
+use Rattle.sc_term.specs.declared.Clause.{Clause}
+use Rattle.sc_term.specs.declared.Line.{Line}
+use Rattle.sc_term.specs.declared.Step.TheVariants.{Flip}
+use Rattle.sc_term.specs.Proof.{AreSteps}
+use Rattle.sc_steps.specs.declared.derivations.made.Made.{Made}
 use Rattle.sc_steps.specs.Derivation.{last_clause}
-use Rattle.sc_rules.specs.Order.{Where}
-use Rattle.sc_rules.specs.Derivation.{Adds}
-use Rattle.sc_rules.specs.Simplification.{IsUphill, Orients}
-use Rattle.sc_rules.proofs.CheckLaws.{adds_checks}
+use Rattle.sc_core_rules.specs.Order.{Where}
+use Rattle.sc_core_rules.specs.Derivation.{Adds}
+use Rattle.sc_core_rules.specs.Simplification.{IsUphill, Orients}
+use Rattle.sc_core_rules.proofs.CheckLaws.{adds_checks}
 
 pub orients_checks : (clauses : List Clause) (before after : List Line) → Orients before after → AreSteps clauses before → AreSteps clauses after
 orients_checks clauses before after h steps = by (last_clause before) h

@@ -2,19 +2,19 @@
 use Rattle.std.proofs.Common.{◌≡◌, ◌∙◌, sym, ap, subst, ℕ, ◌+◌, ◌-◌, inl, inr, List, [], ◌∷◌, ◌++◌, append_assoc, length, length-append, take, Some, arith}
 use Rattle.std.specs.List.{Contains}
 use Rattle.std.proofs.lemmas.List.{append-nil}
-use Rattle.sc_data.specs.declared.Term.{Term}
-use Rattle.sc_data.specs.declared.Clause.{Clause}
-use Rattle.sc_data.specs.declared.Line.{Line}
-use Rattle.sc_data.specs.declared.Numbered.{Numbered}
-use Rattle.sc_data.specs.declared.Step.TheVariants.{Input, Instance}
-use Rattle.sc_data.specs.Numbering.{numbered}
-use Rattle.sc_data.specs.Clause.{instance, width}
-use Rattle.sc_data.specs.Proof.{AreSteps, IsStep, IsStepAt, clause_of, Follows}
+use Rattle.sc_term.specs.declared.Term.{Term}
+use Rattle.sc_term.specs.declared.Clause.{Clause}
+use Rattle.sc_term.specs.declared.Line.{Line}
+use Rattle.sc_term.specs.declared.Numbered.{Numbered}
+use Rattle.sc_term.specs.declared.Step.TheVariants.{Input, Instance}
+use Rattle.sc_term.specs.Numbering.{numbered}
+use Rattle.sc_term.specs.Clause.{instance, width}
+use Rattle.sc_term.specs.Proof.{AreSteps, IsStep, IsStepAt, clause_of, Follows}
 use Rattle.sc_steps.specs.Derivation.{last_clause}
 use Rattle.sc_steps.proofs.LineLaws.{number_within, map_some, clause_in_whole, clause_of_end}
 use Rattle.sc_steps.proofs.ListLaws.{some_and}
-use Rattle.sc_rules.specs.Order.{Where}
-use Rattle.sc_rules.specs.Derivation.{Adds, AddsInput, AreTermsTo, AddsPart}
+use Rattle.sc_core_rules.specs.Order.{Where}
+use Rattle.sc_core_rules.specs.Derivation.{Adds, AddsInput, AreTermsTo, AddsPart}
 use Rattle.sc_demod.specs.Standing.{Agrees, ChecksWith}
 
 -- ---- what the lines of a part have

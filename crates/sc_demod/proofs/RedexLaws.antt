@@ -2,15 +2,15 @@
 use Rattle.std.proofs.Common.{◌≡◌, ◌∙◌, sym, subst, refl, ℕ, ◌+◌, ◌<◌, ◌↔◌, List, [], ◌∷◌, length, get_or, Result, Ok, Err, Option, Some, None, IfOk, MatchOption, Bool, true, false, IsTrue, true≢false, arith}
 use Rattle.std.specs.Option.{is_some}
 use Rattle.std.specs.List.{AllWithin}
-use Rattle.sc_data.specs.declared.SymId.{SymId}
-use Rattle.sc_data.specs.declared.Term.{Term}
-use Rattle.sc_data.specs.declared.Term.TheVariants.{App}
-use Rattle.sc_data.specs.declared.Literal.{Literal}
-use Rattle.sc_data.specs.declared.Clause.{Clause}
-use Rattle.sc_data.specs.declared.Numbered.{Numbered}
-use Rattle.sc_data.specs.Path.{IsSubtermAt}
-use Rattle.sc_data.proofs.TermLaws.{App-injective}
-use Rattle.sc_rules.specs.Rewriting.{Fits, HasRedex}
+use Rattle.sc_term.specs.declared.SymId.{SymId}
+use Rattle.sc_term.specs.declared.Term.{Term}
+use Rattle.sc_term.specs.declared.Term.TheVariants.{App}
+use Rattle.sc_term.specs.declared.Literal.{Literal}
+use Rattle.sc_term.specs.declared.Clause.{Clause}
+use Rattle.sc_term.specs.declared.Numbered.{Numbered}
+use Rattle.sc_term.specs.Path.{IsSubtermAt}
+use Rattle.sc_term.proofs.TermLaws.{App-injective}
+use Rattle.sc_core_rules.specs.Rewriting.{Fits, HasRedex}
 use Rattle.sc_demod.specs.declared.fit.Fit.{Fit}
 use Rattle.sc_demod.specs.Fitting.{IsFirstFit, FitsNone}
 use Rattle.sc_demod.specs.Finding.{IsWithin, FitsSome, FindsNone, FindsSome}

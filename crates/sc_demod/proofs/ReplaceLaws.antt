@@ -1,9 +1,9 @@
 -- A subterm replaced, from its parts.
 use Rattle.std.proofs.Common.{◌≡◌, ◌∙◌, sym, ap, subst, ℕ, suc, ◌+◌, ◌-◌, ◌<◌, List, [], ◌∷◌, ◌++◌, append_assoc, length, get_or, take, drop, Result, Ok, Err, IfOk, Some, arith}
 use Rattle.std.specs.Prelude.{slice_set}
-use Rattle.sc_data.specs.declared.Term.{Term}
-use Rattle.sc_data.specs.Numbering.{numbered, with_element}
-use Rattle.sc_data.specs.Path.{IsSubtermAt, IsReplaced}
+use Rattle.sc_term.specs.declared.Term.{Term}
+use Rattle.sc_term.specs.Numbering.{numbered, with_element}
+use Rattle.sc_term.specs.Path.{IsSubtermAt, IsReplaced}
 use Rattle.sc_steps.specs.Replacement.{IsTermReplaced}
 use Rattle.sc_steps.proofs.ChangedElement.{set_parts, back_range}
 use Rattle.sc_steps.proofs.LineLaws.{number_at, number_within}

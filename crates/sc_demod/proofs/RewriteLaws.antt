@@ -3,33 +3,33 @@ use Rattle.std.proofs.Common.{◌≡◌, ◌∙◌, sym, ap, subst, refl, ℕ, s
 use Rattle.std.specs.Prelude.{IsSomeAnd}
 use Rattle.std.specs.List.{AllByRecursion, Contains, fold}
 use Rattle.std.proofs.lemmas.List.{append-nil}
-use Rattle.sc_data.specs.declared.Term.{Term, Var}
-use Rattle.sc_data.specs.declared.Term.TheVariants.{App}
-use Rattle.sc_data.specs.declared.Literal.{Literal}
-use Rattle.sc_data.specs.declared.Clause.{Clause}
-use Rattle.sc_data.specs.declared.Line.{Line}
-use Rattle.sc_data.specs.declared.Numbered.{Numbered}
-use Rattle.sc_data.specs.declared.Step.TheVariants.{Para}
-use Rattle.sc_data.specs.declared.Side.TheVariants.{Left}
-use Rattle.sc_data.specs.Numbering.{numbered, with_element, without}
-use Rattle.sc_data.specs.Path.{IsReplaced}
-use Rattle.sc_data.specs.Term.{value_of, joined, largest, term_width, term_variables, term_instance}
-use Rattle.sc_data.specs.Clause.{width, literal_width, variables, instance, literal_instance}
-use Rattle.sc_data.specs.Refuted.{equation}
-use Rattle.sc_data.specs.Proof.{Follows, clause_of, IsParamodulant, chosen, other}
-use Rattle.sc_data.proofs.TermLaws.{term_ind, width-Var, width-App}
-use Rattle.sc_data.proofs.TermSteps.{variables-Var, variables-App}
-use Rattle.sc_data.proofs.SubstitutionLaws.{term_laws, all_split, all_join}
+use Rattle.sc_term.specs.declared.Term.{Term, Var}
+use Rattle.sc_term.specs.declared.Term.TheVariants.{App}
+use Rattle.sc_term.specs.declared.Literal.{Literal}
+use Rattle.sc_term.specs.declared.Clause.{Clause}
+use Rattle.sc_term.specs.declared.Line.{Line}
+use Rattle.sc_term.specs.declared.Numbered.{Numbered}
+use Rattle.sc_term.specs.declared.Step.TheVariants.{Para}
+use Rattle.sc_term.specs.declared.Side.TheVariants.{Left}
+use Rattle.sc_term.specs.Numbering.{numbered, with_element, without}
+use Rattle.sc_term.specs.Path.{IsReplaced}
+use Rattle.sc_term.specs.Term.{value_of, joined, largest, term_width, term_variables, term_instance}
+use Rattle.sc_term.specs.Clause.{width, literal_width, variables, instance, literal_instance}
+use Rattle.sc_term.specs.Refuted.{equation}
+use Rattle.sc_term.specs.Proof.{Follows, clause_of, IsParamodulant, chosen, other}
+use Rattle.sc_term.proofs.TermLaws.{term_ind, width-Var, width-App}
+use Rattle.sc_term.proofs.TermSteps.{variables-Var, variables-App}
+use Rattle.sc_term.proofs.SubstitutionLaws.{term_laws, all_split, all_join}
 use Rattle.sc_steps.proofs.LineLaws.{some_so}
 use Rattle.sc_unify.proofs.TermFacts.{all_so}
 use Rattle.sc_unify.proofs.Rows.{at_least}
-use Rattle.sc_rules.specs.Derivation.{AreTermsTo}
-use Rattle.sc_rules.specs.Rewriting.{IsEquation, IsRedex, IsFirstRedex, IsBeforeInPostOrder, IsDemodulator}
-use Rattle.sc_rules.proofs.DerivationLaws.{compared, at_found}
-use Rattle.sc_rules.proofs.FilterLaws.{in_first}
-use Rattle.sc_rules.proofs.SimplifyLaws.{subterm_one, same_sides}
-use Rattle.sc_data.specs.Path.{IsSubtermAt}
-use Rattle.sc_demod.specs.Fitting.{IsFit}
+use Rattle.sc_core_rules.specs.Derivation.{AreTermsTo}
+use Rattle.sc_core_rules.specs.Rewriting.{IsEquation, IsRedex, IsFirstRedex, IsBeforeInPostOrder, IsDemodulator}
+use Rattle.sc_core_rules.proofs.DerivationLaws.{compared, at_found}
+use Rattle.sc_core_rules.proofs.FilterLaws.{in_first}
+use Rattle.sc_core_rules.proofs.SimplifyLaws.{subterm_one, same_sides}
+use Rattle.sc_term.specs.Path.{IsSubtermAt}
+use Rattle.sc_demod.specs.Fitting.{FitsBy}
 use Rattle.sc_demod.specs.Rewriting.{IsPutIn}
 use Rattle.sc_demod.proofs.CutLaws.{absent_any}
 
@@ -126,13 +126,13 @@ demodulator_width c left right e sub =
     let le = narrow (term_width left) right (all_within (λ v. v < term_width left) (term_variables right) (term_variables left) sub (term_below left)) in
     ap (λ (ls : List Literal). largest (map literal_width ls)) e ∙ omega (arith, le)
 
-pub fit_width : (d : Numbered) (s : Term) (terms : List Term) (h : IsFit d s terms) → IsDemodulator d.clause → width d.clause ≡ term_width h.left
+pub fit_width : (d : Numbered) (s : Term) (terms : List Term) (h : FitsBy d s terms) → IsDemodulator d.clause → width d.clause ≡ term_width h.left
 fit_width d s terms h is =
     let both = same_sides is.left is.right h.left h.right (sym is.equates ∙ h.equates) in
     demodulator_width d.clause h.left h.right h.equates
     (subst (λ t. (v : ℕ) → Contains (term_variables h.right) v → Contains (term_variables t) v) both.0 (subst (λ t. (v : ℕ) → Contains (term_variables t) v → Contains (term_variables is.left) v) both.1 is.no_other))
 
-pub terms_of_fit : (d : Numbered) (s : Term) (terms : List Term) → IsFit d s terms → IsDemodulator d.clause → AreTermsTo d.clause (instance terms d.clause) terms
+pub terms_of_fit : (d : Numbered) (s : Term) (terms : List Term) → FitsBy d s terms → IsDemodulator d.clause → AreTermsTo d.clause (instance terms d.clause) terms
 terms_of_fit d s terms h is = record {
   many = h.long ∙ sym wide;
   gives = refl;
@@ -147,7 +147,7 @@ terms_of_fit d s terms h is = record {
     occurring = ap (λ (ls : List Literal). joined (map (λ (l : Literal). joined (map term_variables l.args)) ls)) h.equates
 
 -- the instance is an equation of the redex and a value
-pub value_of_fit : (d : Numbered) (s : Term) (terms : List Term) (h : IsFit d s terms) → IsEquation (instance terms d.clause) s (term_instance terms h.right)
+pub value_of_fit : (d : Numbered) (s : Term) (terms : List Term) (h : FitsBy d s terms) → IsEquation (instance terms d.clause) s (term_instance terms h.right)
 value_of_fit d s terms h = ap (map (literal_instance terms)) h.equates ∙ ap (λ (t : Term). equation true t (term_instance terms h.right) ∷ []) (sym h.equal)
 
 -- ---- the para line

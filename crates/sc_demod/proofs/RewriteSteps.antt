@@ -2,27 +2,27 @@
 use Rattle.std.proofs.Common.{◌≡◌, ◌∙◌, sym, ap, subst, ℕ, ◌<◌, ◌⊎◌, inl, inr, List, [], ◌∷◌, ◌++◌, length, length-append, get_or, true, Some, arith}
 use Rattle.std.specs.List.{AllPairs, Contains}
 use Rattle.std.proofs.lemmas.List.{get_or_default}
-use Rattle.sc_data.specs.declared.Term.{Term}
-use Rattle.sc_data.specs.declared.Literal.{Literal}
-use Rattle.sc_data.specs.declared.Clause.{Clause}
-use Rattle.sc_data.specs.declared.Line.{Line}
-use Rattle.sc_data.specs.declared.Numbered.{Numbered}
-use Rattle.sc_data.specs.declared.Step.TheVariants.{Para}
-use Rattle.sc_data.specs.declared.Side.TheVariants.{Left}
-use Rattle.sc_data.specs.Numbering.{numbered}
-use Rattle.sc_data.specs.Term.{term_instance}
-use Rattle.sc_data.specs.Clause.{instance, IsWithinLimits}
-use Rattle.sc_data.specs.Refuted.{equation}
-use Rattle.sc_data.specs.Proof.{AreSteps, Follows, clause_of}
+use Rattle.sc_term.specs.declared.Term.{Term}
+use Rattle.sc_term.specs.declared.Literal.{Literal}
+use Rattle.sc_term.specs.declared.Clause.{Clause}
+use Rattle.sc_term.specs.declared.Line.{Line}
+use Rattle.sc_term.specs.declared.Numbered.{Numbered}
+use Rattle.sc_term.specs.declared.Step.TheVariants.{Para}
+use Rattle.sc_term.specs.declared.Side.TheVariants.{Left}
+use Rattle.sc_term.specs.Numbering.{numbered}
+use Rattle.sc_term.specs.Term.{term_instance}
+use Rattle.sc_term.specs.Clause.{instance, IsWithinLimits}
+use Rattle.sc_term.specs.Refuted.{equation}
+use Rattle.sc_term.specs.Proof.{AreSteps, Follows, clause_of}
 use Rattle.sc_steps.specs.Derivation.{last_clause}
 use Rattle.sc_steps.proofs.LineLaws.{clause_of_end}
-use Rattle.sc_rules.specs.Order.{IsLeast}
-use Rattle.sc_rules.specs.Derivation.{AddsPart}
-use Rattle.sc_rules.specs.Rewriting.{number_of, IsEquation, Fits, IsRedex, IsFirstRedex, RewritesOnce}
-use Rattle.sc_rules.proofs.DerivationLaws.{compared}
-use Rattle.sc_rules.proofs.SimplifyLaws.{NumbersTell, least_one}
-use Rattle.sc_rules.proofs.StepLaws.{follows_one}
-use Rattle.sc_rules.proofs.CheckLaws.{part_checks, adds_checks}
+use Rattle.sc_core_rules.specs.Order.{IsLeast}
+use Rattle.sc_core_rules.specs.Derivation.{AddsPart}
+use Rattle.sc_core_rules.specs.Rewriting.{number_of, IsEquation, Fits, IsRedex, IsFirstRedex, RewritesOnce}
+use Rattle.sc_core_rules.proofs.DerivationLaws.{compared}
+use Rattle.sc_core_rules.proofs.SimplifyLaws.{NumbersTell, least_one}
+use Rattle.sc_core_rules.proofs.StepLaws.{follows_one}
+use Rattle.sc_core_rules.proofs.CheckLaws.{part_checks, adds_checks}
 use Rattle.sc_demod.specs.Finding.{FindsIn, FindsNoneIn}
 use Rattle.sc_demod.specs.Standing.{Agrees}
 use Rattle.sc_demod.specs.Rewriting.{AreDemods, IsPutIn, IsChange, IsIrreducible, IsRewritten}

@@ -1,13 +1,13 @@
 -- Terms and literals weigh something, so that a list of them is no longer than its weight.
 use Rattle.std.proofs.Common.{◌≡◌, ap, ℕ, ◌<◌, ◌≤◌, List, [], ◌∷◌, length, map, sum, get_or, arith}
 use Rattle.std.proofs.lemmas.List.Sums.{sum_by-cons, sum-map, get_or-le-sum_by}
-use Rattle.sc_data.specs.declared.SymId.{SymId}
-use Rattle.sc_data.specs.declared.Term.{Term}
-use Rattle.sc_data.specs.declared.Term.TheVariants.{App}
-use Rattle.sc_data.specs.declared.Literal.{Literal}
-use Rattle.sc_data.specs.Term.{term_weight}
-use Rattle.sc_data.specs.Clause.{literal_weight}
-use Rattle.sc_data.proofs.TermLaws.{weight-App}
+use Rattle.sc_term.specs.declared.SymId.{SymId}
+use Rattle.sc_term.specs.declared.Term.{Term}
+use Rattle.sc_term.specs.declared.Term.TheVariants.{App}
+use Rattle.sc_term.specs.declared.Literal.{Literal}
+use Rattle.sc_term.specs.Term.{term_weight}
+use Rattle.sc_term.specs.Clause.{literal_weight}
+use Rattle.sc_term.proofs.TermLaws.{weight-App}
 use Rattle.sc_unify.proofs.Costs.{weight-positive}
 
 pub one_of_sum : {X : Type 0} (w : X → ℕ) (xs : List X) (i : ℕ) (x : X) → i < length xs → x ≡ get_or xs i x → w x ≤ sum (map w xs)

@@ -1,8 +1,8 @@
 -- When an equation of these sides becomes a demodulator.
 use Rattle.std.specs.Prelude.{◌<◌, ℕ}
-use Rattle.sc_data.specs.declared.Term.{Term}
-use Rattle.sc_data.specs.Term.{term_weight}
-use Rattle.sc_rules.specs.Paramodulation.{IsCompound}
+use Rattle.sc_term.specs.declared.Term.{Term}
+use Rattle.sc_term.specs.Term.{term_weight}
+use Rattle.sc_core_rules.specs.Paramodulation.{IsCompound}
 use Rattle.sc_demod.specs.Counting.{OccursNoMore}
 
 -- the left side is no variable and weighs more, and no variable occurs more often on the right

@@ -1,7 +1,7 @@
 -- How often variables occur on the sides of an equation.
 use Rattle.std.specs.Prelude.{◌≤◌, ℕ, count_by, nat_eq}
-use Rattle.sc_data.specs.declared.Term.{Term}
-use Rattle.sc_data.specs.Term.{term_variables}
+use Rattle.sc_term.specs.declared.Term.{Term}
+use Rattle.sc_term.specs.Term.{term_variables}
 
 -- the variable occurs no more often in the one term than in the other
 abbrev pub OccursNoMore : Term → Term → ℕ → Type 0

@@ -1,16 +1,16 @@
 -- Removing literals by units.
 use Rattle.std.specs.Prelude.{◌≡◌, ◌<◌, ℕ, List, [], ◌∷◌, length, not, Some, slice_index_or}
 use Rattle.std.specs.List.{AllWithin}
-use Rattle.sc_data.specs.declared.Term.{Term}
-use Rattle.sc_data.specs.declared.Literal.{Literal}
-use Rattle.sc_data.specs.declared.Clause.{Clause}
-use Rattle.sc_data.specs.declared.Line.{Line}
-use Rattle.sc_data.specs.declared.Numbered.{Numbered}
-use Rattle.sc_data.specs.declared.Step.TheVariants.{Resolve}
-use Rattle.sc_data.specs.Numbering.{numbered, without}
+use Rattle.sc_term.specs.declared.Term.{Term}
+use Rattle.sc_term.specs.declared.Literal.{Literal}
+use Rattle.sc_term.specs.declared.Clause.{Clause}
+use Rattle.sc_term.specs.declared.Line.{Line}
+use Rattle.sc_term.specs.declared.Numbered.{Numbered}
+use Rattle.sc_term.specs.declared.Step.TheVariants.{Resolve}
+use Rattle.sc_term.specs.Numbering.{numbered, without}
 use Rattle.sc_steps.specs.Derivation.{last_clause}
-use Rattle.sc_rules.specs.Derivation.{Adds, AddsPart}
-use Rattle.sc_rules.specs.Simplification.{Removes}
+use Rattle.sc_core_rules.specs.Derivation.{Adds, AddsPart}
+use Rattle.sc_core_rules.specs.Simplification.{Removes}
 use Rattle.sc_unify.specs.Matching.{IsMatch}
 
 -- u is a unit that removes l by these terms in place of its variables

@@ -1,14 +1,14 @@
 -- The first redex of a term, of terms, of a clause.
 use Rattle.std.specs.Prelude.{◌≡◌, ◌<◌, ℕ, List, [], ◌∷◌, Contains, Some}
-use Rattle.sc_data.specs.declared.SymId.{SymId}
-use Rattle.sc_data.specs.declared.Term.{Term}
-use Rattle.sc_data.specs.declared.Term.TheVariants.{App}
-use Rattle.sc_data.specs.declared.Literal.{Literal}
-use Rattle.sc_data.specs.declared.Numbered.{Numbered}
-use Rattle.sc_data.specs.Numbering.{numbered}
-use Rattle.sc_data.specs.Path.{IsSubtermAt}
-use Rattle.sc_rules.specs.Paramodulation.{IsCompound}
-use Rattle.sc_rules.specs.Rewriting.{Fits, IsBeforeInPostOrder}
+use Rattle.sc_term.specs.declared.SymId.{SymId}
+use Rattle.sc_term.specs.declared.Term.{Term}
+use Rattle.sc_term.specs.declared.Term.TheVariants.{App}
+use Rattle.sc_term.specs.declared.Literal.{Literal}
+use Rattle.sc_term.specs.declared.Numbered.{Numbered}
+use Rattle.sc_term.specs.Numbering.{numbered}
+use Rattle.sc_term.specs.Path.{IsSubtermAt}
+use Rattle.sc_core_rules.specs.Paramodulation.{IsCompound}
+use Rattle.sc_core_rules.specs.Rewriting.{Fits, IsBeforeInPostOrder}
 use Rattle.sc_demod.specs.Fitting.{IsFirstFit}
 
 -- s is the term's subterm at the path, the term itself for the empty path

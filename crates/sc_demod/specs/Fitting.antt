@@ -1,13 +1,13 @@
 -- Which demodulator fits a term, and by which terms.
 use Rattle.std.specs.Prelude.{◌≡◌, ◌<◌, ℕ, List, length, slice_get, slice_index_or, nat_eq, Some, false}
 use Rattle.std.specs.List.{AllWithin, list_any}
-use Rattle.sc_data.specs.declared.Term.{Term, Var}
-use Rattle.sc_data.specs.declared.Numbered.{Numbered}
-use Rattle.sc_data.specs.Term.{term_width, term_variables, term_instance}
-use Rattle.sc_rules.specs.Rewriting.{IsEquation, Fits}
+use Rattle.sc_term.specs.declared.Term.{Term, Var}
+use Rattle.sc_term.specs.declared.Numbered.{Numbered}
+use Rattle.sc_term.specs.Term.{term_width, term_variables, term_instance}
+use Rattle.sc_core_rules.specs.Rewriting.{IsEquation, Fits}
 
 -- s is the demodulator's left side with these terms in place of its variables, and variable 0 where one doesn't occur
-pub record IsFit (d : Numbered) (s : Term) (terms : List Term) : Type 0 where
+pub record FitsBy (d : Numbered) (s : Term) (terms : List Term) : Type 0 where
   pub left : Term
   pub right : Term
   pub equates : IsEquation d.clause left right
@@ -20,7 +20,7 @@ pub record IsFirstFit (demods : List Numbered) (s : Term) (place : ℕ) (terms :
   pub within : place < length demods
   pub demodulator : Numbered
   pub there : demodulator ≡ slice_index_or demods place demodulator
-  pub fit : IsFit demodulator s terms
+  pub fit : FitsBy demodulator s terms
   pub first : AllWithin (λ d. ¬ Fits d s) demods 0 place
 
 -- none of them fits

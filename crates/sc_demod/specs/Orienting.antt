@@ -1,9 +1,9 @@
 -- An equation with its sides exchanged.
 use Rattle.std.specs.Prelude.{◌<◌}
-use Rattle.sc_data.specs.declared.Term.{Term}
-use Rattle.sc_data.specs.declared.Clause.{Clause}
-use Rattle.sc_data.specs.Term.{term_weight}
-use Rattle.sc_rules.specs.Rewriting.{IsEquation}
+use Rattle.sc_term.specs.declared.Term.{Term}
+use Rattle.sc_term.specs.declared.Clause.{Clause}
+use Rattle.sc_term.specs.Term.{term_weight}
+use Rattle.sc_core_rules.specs.Rewriting.{IsEquation}
 
 -- the one is an equation whose right side weighs more, and the other the same with the sides exchanged
 pub record IsTurned (c d : Clause) : Type 0 where

@@ -1,15 +1,15 @@
 -- A clause rewritten once.
 use Rattle.std.specs.Prelude.{◌≡◌, ◌<◌, ℕ, List, Contains, AllPairs, Some}
-use Rattle.sc_data.specs.declared.Term.{Term}
-use Rattle.sc_data.specs.declared.Literal.{Literal}
-use Rattle.sc_data.specs.declared.Clause.{Clause}
-use Rattle.sc_data.specs.declared.Line.{Line}
-use Rattle.sc_data.specs.declared.Numbered.{Numbered}
-use Rattle.sc_data.specs.Clause.{instance, IsWithinLimits}
-use Rattle.sc_data.specs.Numbering.{numbered, with_element}
-use Rattle.sc_data.specs.Path.{IsReplaced}
+use Rattle.sc_term.specs.declared.Term.{Term}
+use Rattle.sc_term.specs.declared.Literal.{Literal}
+use Rattle.sc_term.specs.declared.Clause.{Clause}
+use Rattle.sc_term.specs.declared.Line.{Line}
+use Rattle.sc_term.specs.declared.Numbered.{Numbered}
+use Rattle.sc_term.specs.Clause.{instance, IsWithinLimits}
+use Rattle.sc_term.specs.Numbering.{numbered, with_element}
+use Rattle.sc_term.specs.Path.{IsReplaced}
 use Rattle.sc_steps.specs.Derivation.{last_clause}
-use Rattle.sc_rules.specs.Rewriting.{IsEquation, IsDemodulator, RewritesOnce}
+use Rattle.sc_core_rules.specs.Rewriting.{IsEquation, IsDemodulator, RewritesOnce}
 use Rattle.sc_demod.specs.Standing.{Agrees}
 use Rattle.sc_demod.specs.Finding.{FindsIn}
 

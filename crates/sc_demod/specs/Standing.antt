@@ -1,10 +1,10 @@
 -- Derivations over clauses by their numbers.
 use Rattle.std.specs.Prelude.{◌≡◌, ℕ, List, Contains, Some}
-use Rattle.sc_data.specs.declared.Clause.{Clause}
-use Rattle.sc_data.specs.declared.Line.{Line}
-use Rattle.sc_data.specs.declared.Numbered.{Numbered}
-use Rattle.sc_data.specs.Numbering.{numbered}
-use Rattle.sc_data.specs.Proof.{AreSteps, clause_of}
+use Rattle.sc_term.specs.declared.Clause.{Clause}
+use Rattle.sc_term.specs.declared.Line.{Line}
+use Rattle.sc_term.specs.declared.Numbered.{Numbered}
+use Rattle.sc_term.specs.Numbering.{numbered}
+use Rattle.sc_term.specs.Proof.{AreSteps, clause_of}
 use Rattle.sc_steps.specs.Derivation.{IsInputAt}
 
 -- each of these is the clause of its number

@@ -1,16 +1,15 @@
 //! What becomes a demodulator.
 
 ghost use Rattle.std.specs.Prelude.{◌<◌, ◌^◌, ◌↔◌, IsTrue};
-ghost use Rattle.sc_data.specs.Clause as of;
-ghost use Rattle.sc_data.specs.Term as spec;
-ghost use Rattle.sc_data.specs.declared.Term.{Term as ATerm};
-ghost use Rattle.sc_rules.specs.Rewriting.{BecomesDemodulator};
+ghost use Rattle.sc_term.specs.Clause as of;
+ghost use Rattle.sc_term.specs.Term as spec;
+ghost use Rattle.sc_term.specs.declared.Term.{Term as ATerm};
+ghost use Rattle.sc_core_rules.specs.Rewriting.{BecomesDemodulator};
 ghost use Rattle.sc_demod.specs.Becoming.{AreDecreasing};
 
 use crate::count::each_no_more;
 use crate::equation::{is_compound, sides};
-use sc_data::{Clause, Term};
-use sc_term::term_weight;
+use sc_term::{Clause, Term, term_weight};
 
 /// Whether the left side is no variable and weighs more than the right, and no variable occurs more often on the right.
 fn are_decreasing(left: &Term, right: &Term) -> bool

@@ -2,10 +2,10 @@
 
 ghost use Rattle.std.specs.Prelude.{◌≡◌, ◌<◌, ◌≤◌, ◌^◌, ◌↔◌, map, min, count_by, nat_eq, IsTrue};
 ghost use Rattle.std.specs.List.{AllByRecursion};
-ghost use Rattle.sc_data.specs.Term.{joined, term_weight, term_variables};
+ghost use Rattle.sc_term.specs.Term.{joined, term_weight, term_variables};
 ghost use Rattle.sc_demod.specs.Counting.{OccursNoMore};
 
-use sc_data::Term;
+use sc_term::Term;
 
 /// How often the variable occurs, or the greatest u32 where that is less.
 #[cycle(counting)]

@@ -1,12 +1,10 @@
 //! Demodulators in the order of their numbers.
 
 ghost use Rattle.std.specs.Prelude.{◌≡◌, ◌<◌, [], ◌∷◌, ◌++◌, All, OnOk, OnErr};
-ghost use Rattle.sc_rules.specs.Rewriting.{IsDemodulator};
+ghost use Rattle.sc_core_rules.specs.Rewriting.{IsDemodulator};
 ghost use Rattle.sc_demod.specs.Rewriting.{AreDemods};
 
-use sc_data::Numbered;
-use sc_term::Mem;
-use sqlite_items::Items;
+use sc_term::{List, Mem, Numbered};
 use std::alloc::Global;
 use std::marker::Model;
 
@@ -14,17 +12,17 @@ use std::marker::Model;
 /// keeps.
 #[derive(Drop)]
 pub struct Demods {
-    items: Items<Numbered>,
+    items: List<Numbered>,
 }
 
 impl Model for Demods {
-    ghost use Rattle.std.specs.Prelude.{List};
+    ghost use Rattle.std.specs.Prelude.{List as AList};
     ghost use Rattle.std.specs.Coded.{codes};
-    ghost use Rattle.sc_data.specs.contracts.Term as term;
-    ghost use Rattle.sc_data.specs.declared.Numbered.{Numbered};
+    ghost use Rattle.sc_term.specs.contracts.Term as term;
+    ghost use Rattle.sc_term.specs.declared.Numbered.{Numbered};
     ghost use Rattle.sc_demod.specs.Rewriting.{AreDemods};
 
-    ghost Value = { List Numbered };
+    ghost Value = { AList Numbered };
 
     ghost coded = { Prim.hlevel (codes, term.the_row.coded) };
 
@@ -39,7 +37,7 @@ impl Demods {
         ensures { result ≡ [] }
     {
         Demods {
-            items: Items::new(alloc),
+            items: List::new(alloc),
         }
     }
 

@@ -1,17 +1,13 @@
 //! Clauses that are one positive equation.
 
 ghost use Rattle.std.specs.Prelude.{◌≡◌, ◌≢◌, ◌∷◌, [], ◌↔◌, true, IsTrue, IfOk, IfSome, IfNone};
-ghost use Rattle.sc_data.specs.Refuted.{equation};
-ghost use Rattle.sc_data.specs.declared.Term.{Term as ATerm};
-ghost use Rattle.sc_rules.specs.Paramodulation.{IsCompound};
-ghost use Rattle.sc_rules.specs.Rewriting.{IsEquation};
+ghost use Rattle.sc_term.specs.Refuted.{equation};
+ghost use Rattle.sc_term.specs.declared.Term.{Term as ATerm};
+ghost use Rattle.sc_core_rules.specs.Paramodulation.{IsCompound};
+ghost use Rattle.sc_core_rules.specs.Rewriting.{IsEquation};
 
-use sc_data::{Clause, Literal, SymId, Term};
-use sc_term::{Mem, copy_term};
-use sqlite_items::Items;
+use sc_term::{Clause, EQUALS, List, Literal, Mem, Term, copy_term};
 use std::alloc::Global;
-
-const EQUALS: SymId = SymId(0);
 
 /// The sides of the literal, where it is a positive equation.
 fn literal_sides(l: &Literal) -> Option<(&Term, &Term)>
@@ -42,10 +38,10 @@ pub fn sides(c: &Clause) -> Option<(&Term, &Term)>
 pub fn equation(alloc: Global, left: &Term, right: &Term) -> Mem<Clause>
     ensures { IfOk result (λ c. IsEquation c left.now right.now) }
 {
-    let mut args = Items::new(alloc);
+    let mut args = List::new(alloc);
     args.push(copy_term(alloc, left)?)?;
     args.push(copy_term(alloc, right)?)?;
-    let mut literals = Items::new(alloc);
+    let mut literals = List::new(alloc);
     literals.push(Literal {
         positive: true,
         pred: EQUALS,

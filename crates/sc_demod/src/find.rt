@@ -2,16 +2,14 @@
 //! back.
 
 ghost use Rattle.std.specs.Prelude.{◌≡◌, ◌<◌, ◌+◌, ◌^◌, [], sum, map, IfOk, MatchOption};
-ghost use Rattle.sc_data.specs.Clause.{literal_weight};
-ghost use Rattle.sc_data.specs.Path.{IsSubtermAt};
-ghost use Rattle.sc_data.specs.Term.{term_weight};
+ghost use Rattle.sc_term.specs.Clause.{literal_weight};
+ghost use Rattle.sc_term.specs.Path.{IsSubtermAt};
+ghost use Rattle.sc_term.specs.Term.{term_weight};
 ghost use Rattle.sc_demod.specs.Fitting.{IsFirstFit, FitsNone};
 ghost use Rattle.sc_demod.specs.Finding.{IsWithin, FindsNone, Finds, FindsNoneIn, FindsIn};
 
 use crate::fit::first_fit;
-use sc_data::{Literal, Numbered, Term};
-use sc_term::Mem;
-use sqlite_items::Items;
+use sc_term::{List, Literal, Mem, Numbered, Term};
 use std::alloc::Global;
 
 /// A redex by its path, the first demodulator that fits it, by its place in the list, and the terms for its variables.
@@ -19,7 +17,7 @@ use std::alloc::Global;
 pub struct Redex {
     pub path: Vec<u32>,
     pub place: usize,
-    pub terms: Items<Term>,
+    pub terms: List<Term>,
 }
 
 /// A literal, from 1, and its first redex.

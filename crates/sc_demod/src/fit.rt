@@ -1,23 +1,21 @@
 //! Which demodulator fits a term.
 
 ghost use Rattle.std.specs.Prelude.{◌≡◌, false, IfOk, MatchOption};
-ghost use Rattle.sc_rules.specs.Paramodulation.{atom_with};
-ghost use Rattle.sc_rules.specs.Rewriting.{Fits};
+ghost use Rattle.sc_core_rules.specs.Paramodulation.{atom_with};
+ghost use Rattle.sc_core_rules.specs.Rewriting.{Fits};
 ghost use Rattle.sc_unify.specs.Matching.{IsMatch, HasNoMatch};
-ghost use Rattle.sc_demod.specs.Fitting.{IsFit, IsFirstFit, FitsNone};
+ghost use Rattle.sc_demod.specs.Fitting.{FitsBy, IsFirstFit, FitsNone};
 
 use crate::equation::sides;
-use sc_data::{Literal, Numbered, SymId, Term};
-use sc_term::{Mem, copy_term};
+use sc_term::{List, Literal, Mem, Numbered, SymId, Term, copy_term};
 use sc_unify::match_onto;
-use sqlite_items::Items;
 use std::alloc::Global;
 
 /// The first demodulator that fits, by its place in the list, and the terms for its variables.
 #[derive(Debug, Drop)]
 pub struct Fit {
     pub place: usize,
-    pub terms: Items<Term>,
+    pub terms: List<Term>,
 }
 
 /// Whether the term may be an instance of the pattern, by their first symbols alone.
@@ -35,7 +33,7 @@ fn may_match(pattern: &Term, target: &Term) -> bool
 fn atom_with(alloc: Global, t: &Term) -> Mem<Literal>
     ensures { IfOk result (λ l. l ≡ atom_with t.now) }
 {
-    let mut args = Items::new(alloc);
+    let mut args = List::new(alloc);
     args.push(copy_term(alloc, t)?)?;
     Ok(Literal {
         positive: true,
@@ -45,7 +43,7 @@ fn atom_with(alloc: Global, t: &Term) -> Mem<Literal>
 }
 
 /// Terms for the pattern's variables that make it the target, or None where there are none.
-fn match_term(alloc: Global, pattern: &Term, target: &Term) -> Mem<Option<Items<Term>>>
+fn match_term(alloc: Global, pattern: &Term, target: &Term) -> Mem<Option<List<Term>>>
     ensures { IfOk result (λ found. MatchOption found (HasNoMatch (atom_with pattern.now) (atom_with target.now)) (IsMatch (atom_with pattern.now) (atom_with target.now))) }
 {
     if !may_match(pattern, target) {
@@ -57,8 +55,8 @@ fn match_term(alloc: Global, pattern: &Term, target: &Term) -> Mem<Option<Items<
 }
 
 /// Terms for the demodulator's variables that make its left side the term, or None where it doesn't fit.
-fn fit_one(alloc: Global, d: &Numbered, s: &Term) -> Mem<Option<Items<Term>>>
-    ensures { IfOk result (λ found. MatchOption found (¬ Fits d.now s.now) (IsFit d.now s.now)) }
+fn fit_one(alloc: Global, d: &Numbered, s: &Term) -> Mem<Option<List<Term>>>
+    ensures { IfOk result (λ found. MatchOption found (¬ Fits d.now s.now) (FitsBy d.now s.now)) }
 {
     match sides(&d.clause) {
         Some((left, _)) => match_term(alloc, left, s),

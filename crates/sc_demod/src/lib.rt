@@ -1,6 +1,6 @@
 //! Rewriting by demodulators, orientation of equations and unit deletion, as a conclusion is simplified.
 //!
-//! It stands on the definitions `Rewriting` and `Simplification` of sc_rules, on sc_unify's `match_onto`, on sc_resolve for
+//! It stands on the definitions `Rewriting` and `Simplification` of sc_core_rules, on sc_unify's `match_onto`, on sc_resolve for
 //! the lines of a part and the order of units, on sc_term's instances and weights, and on sc_steps' `Made`, a conclusion
 //! with its derivation. Callers may rest on these:
 //! `rewrite`, `orient` and `unit_delete` answer the conclusion that the definitions say (`Rewrites`, `Orients`,
@@ -35,6 +35,3 @@ pub use orientation::orient;
 pub use redex::has_redex;
 pub use rewriting::rewrite;
 pub use unit::{unit_delete, unit_delete_by};
-
-#[cfg(test)]
-mod tests;

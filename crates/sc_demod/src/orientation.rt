@@ -1,18 +1,17 @@
 //! Orientation of equations.
 
 ghost use Rattle.std.specs.Prelude.{◌≡◌, ◌<◌, ◌≤◌, ◌∷◌, [], List, true, IfOk, MatchOption};
-ghost use Rattle.sc_data.specs.Clause as of;
-ghost use Rattle.sc_data.specs.Proof.{AreSteps};
-ghost use Rattle.sc_data.specs.Refuted.{equation};
-ghost use Rattle.sc_data.specs.declared.Clause.{Clause as AClause};
-ghost use Rattle.sc_rules.specs.Simplification.{IsUphill, Orients};
+ghost use Rattle.sc_term.specs.Clause as of;
+ghost use Rattle.sc_term.specs.Proof.{AreSteps};
+ghost use Rattle.sc_term.specs.Refuted.{equation};
+ghost use Rattle.sc_term.specs.declared.Clause.{Clause as AClause};
+ghost use Rattle.sc_core_rules.specs.Simplification.{IsUphill, Orients};
 ghost use Rattle.sc_demod.specs.Orienting.{IsTurned};
 
 use crate::equation::{equation, sides};
 use crate::extend::{count_lines, extend};
-use sc_data::{Clause, Step};
 use sc_steps::Made;
-use sc_term::{Mem, term_weight};
+use sc_term::{Clause, Mem, Step, term_weight};
 use std::alloc::Global;
 
 /// The equation with its sides exchanged, where the clause is a positive unit equation whose right side weighs more.

@@ -1,13 +1,12 @@
 //! Whether a clause has a redex. No path is put together, so a clause may weigh anything.
 
 ghost use Rattle.std.specs.Prelude.{◌↔◌, IfOk, IsTrue};
-ghost use Rattle.sc_data.specs.Path.{IsSubtermAt};
-ghost use Rattle.sc_rules.specs.Rewriting.{HasRedex};
+ghost use Rattle.sc_term.specs.Path.{IsSubtermAt};
+ghost use Rattle.sc_core_rules.specs.Rewriting.{HasRedex};
 ghost use Rattle.sc_demod.specs.Finding.{IsWithin, FitsSome, FindsSome};
 
 use crate::fit::first_fit;
-use sc_data::{Clause, Numbered, Term};
-use sc_term::Mem;
+use sc_term::{Clause, Mem, Numbered, Term};
 use std::alloc::Global;
 use std::slice;
 

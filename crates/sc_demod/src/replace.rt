@@ -1,19 +1,17 @@
 //! A subterm replaced.
 
 ghost use Rattle.std.specs.Prelude.{◌≡◌, ◌<◌, length, slice_set, IfOk, IsSomeAnd};
-ghost use Rattle.sc_data.specs.Numbering.{numbered};
-ghost use Rattle.sc_data.specs.Path.{IsSubtermAt, IsReplaced};
+ghost use Rattle.sc_term.specs.Numbering.{numbered};
+ghost use Rattle.sc_term.specs.Path.{IsSubtermAt, IsReplaced};
 ghost use Rattle.sc_steps.specs.Replacement.{IsTermReplaced};
 ghost use Rattle.sc_demod.specs.Finding.{IsWithin};
 ghost use Rattle.sc_demod.specs.Rewriting.{IsPutIn};
 
-use sc_data::{Clause, Literal, Term};
-use sc_term::{Mem, copy, copy_term, copy_terms};
-use sqlite_items::Items;
+use sc_term::{Clause, List, Literal, Mem, Term, copy, copy_term, copy_terms};
 use std::alloc::Global;
 
 /// Copies of the terms, with another one at the place.
-fn with_term(alloc: Global, args: &[Term], at: usize, new: Term) -> Mem<Items<Term>>
+fn with_term(alloc: Global, args: &[Term], at: usize, new: Term) -> Mem<List<Term>>
     requires { at < length args.now }
     ensures { IfOk result (λ all. all ≡ slice_set args.now at new) }
 {
@@ -50,7 +48,7 @@ fn replace_in_terms(
     path: &[u32],
     redex: &Term,
     value: &Term,
-) -> Mem<Items<Term>>
+) -> Mem<List<Term>>
     requires { IsSubtermAt args.now path.now redex.now }
     ensures { IfOk result (λ new. IsReplaced args.now path.now redex.now value.now new) }
 {

@@ -1,10 +1,10 @@
 //! Rewriting by demodulators.
 
-ghost use Rattle.std.specs.Prelude.{◌≡◌, ◌≤◌, List, ◌↔◌, IfOk, IsTrue, MatchOption, Some};
-ghost use Rattle.sc_data.specs.Clause as spec;
-ghost use Rattle.sc_data.specs.Clause.{IsWithinLimits};
-ghost use Rattle.sc_data.specs.declared.Line.{Line as ALine};
-ghost use Rattle.sc_rules.specs.Rewriting.{Rewrites, RewritesOnce};
+ghost use Rattle.std.specs.Prelude.{◌≡◌, ◌≤◌, List as AList, ◌↔◌, IfOk, IsTrue, MatchOption, Some};
+ghost use Rattle.sc_term.specs.Clause as spec;
+ghost use Rattle.sc_term.specs.Clause.{IsWithinLimits};
+ghost use Rattle.sc_term.specs.declared.Line.{Line as ALine};
+ghost use Rattle.sc_core_rules.specs.Rewriting.{Rewrites, RewritesOnce};
 ghost use Rattle.sc_steps.specs.Derivation.{last_clause};
 ghost use Rattle.sc_demod.specs.Standing.{ChecksWith, KeepsChecking};
 ghost use Rattle.sc_demod.specs.Rewriting.{AreDemods, AllAgree, IsChange, IsIrreducible, IsRewritten};
@@ -15,11 +15,12 @@ use crate::equation::sides;
 use crate::extend::count_lines;
 use crate::find::{Found, find};
 use crate::replace::put_in;
-use sc_data::{Clause, Line, Numbered, Side, Step, Term};
 use sc_resolve::{add_line, add_part};
 use sc_steps::Made;
-use sc_term::{MAX_DEPTH, MAX_WEIGHT, Mem, copy, depth, instance, weight};
-use sqlite_items::Items;
+use sc_term::{
+    Clause, Line, List, MAX_DEPTH, MAX_WEIGHT, Mem, Numbered, Side, Step, Term, copy, depth,
+    instance, weight,
+};
 use std::alloc::Global;
 
 /// What a clause is rewritten to, the instance of the demodulator by which it is, and where.
@@ -81,7 +82,7 @@ fn first_change(alloc: Global, clause: &Clause, demods: &[Numbered]) -> Mem<Opti
 fn add_change(
     alloc: Global,
     clause: &Clause,
-    lines: &mut Items<Line>,
+    lines: &mut List<Line>,
     demods: &[Numbered],
     made: Change,
 ) -> Mem<Clause>
@@ -102,7 +103,7 @@ fn add_change(
         side: Side::Left,
         into,
         into_lit: literal,
-        path: Items::from_vec(redex.path),
+        path: List::from_vec(redex.path),
     };
     add_line(lines, step, copied)?;
     Ok(made.after)
@@ -113,14 +114,14 @@ fn add_change(
 fn rewrite_once(
     alloc: Global,
     clause: &Clause,
-    lines: &mut Items<Line>,
+    lines: &mut List<Line>,
     demods: &[Numbered],
 ) -> Mem<Option<Clause>>
     requires are { AreDemods demods.now }
     requires light { spec.weight clause.now ≤ 10000 }
     requires ends { last_clause lines.old ≡ Some clause.now }
     requires agrees { AllAgree lines.old demods.now }
-    ensures { IfOk result (λ o. MatchOption o ((lines.new ≡ lines.old) × ((after : List ALine) → ¬ RewritesOnce demods.now lines.old after)) (λ c. IsRewritten demods.now lines.old lines.new c)) }
+    ensures { IfOk result (λ o. MatchOption o ((lines.new ≡ lines.old) × ((after : AList ALine) → ¬ RewritesOnce demods.now lines.old after)) (λ c. IsRewritten demods.now lines.old lines.new c)) }
 {
     match first_change(alloc, clause, demods)? {
         Some(made) => Ok(Some(add_change(alloc, clause, lines, demods, made)?)),

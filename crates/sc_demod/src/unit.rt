@@ -1,12 +1,12 @@
 //! Unit deletion.
 
 ghost use Rattle.std.specs.Prelude.{◌≡◌, ◌≢◌, ◌<◌, ◌≤◌, ◌+◌, ◌∷◌, [], not, length, AllPairs, IfOk, MatchOption, IsSomeAnd, Some, IsTrue, ◌↔◌};
-ghost use Rattle.sc_data.specs.Clause as of;
-ghost use Rattle.sc_data.specs.Numbering.{numbered};
-ghost use Rattle.sc_data.specs.declared.Clause.{Clause as AClause};
-ghost use Rattle.sc_data.specs.declared.Literal.{Literal as ALiteral};
-ghost use Rattle.sc_rules.specs.Order.{Exhausts};
-ghost use Rattle.sc_rules.specs.Simplification.{Removes, DeletesOnce};
+ghost use Rattle.sc_term.specs.Clause as of;
+ghost use Rattle.sc_term.specs.Numbering.{numbered};
+ghost use Rattle.sc_term.specs.declared.Clause.{Clause as AClause};
+ghost use Rattle.sc_term.specs.declared.Literal.{Literal as ALiteral};
+ghost use Rattle.sc_core_rules.specs.Order.{Exhausts};
+ghost use Rattle.sc_core_rules.specs.Simplification.{Removes, DeletesOnce};
 ghost use Rattle.sc_steps.specs.Derivation.{last_clause};
 ghost use Rattle.sc_resolve.specs.ByNumber.{seen};
 ghost use Rattle.sc_demod.specs.Standing.{Agrees, ChecksWith, KeepsChecking};
@@ -14,12 +14,10 @@ ghost use Rattle.sc_demod.specs.Deleting.{IsRemoval, IsFirstRemoval, RemovesNone
 
 use crate::extend::count_lines;
 use crate::fit::Fit;
-use sc_data::{Clause, Line, Literal, Numbered, Step, Term};
 use sc_resolve::{add_line, add_part, by_number};
 use sc_steps::Made;
-use sc_term::{Mem, copy, copy_literal};
+use sc_term::{Clause, Line, List, Literal, Mem, Numbered, Step, Term, copy, copy_literal};
 use sc_unify::match_onto;
-use sqlite_items::Items;
 use std::alloc::Global;
 
 /// Whether the signs are opposite.
@@ -30,7 +28,7 @@ fn are_opposed(l: &Literal, m: &Literal) -> bool
 }
 
 /// Terms for the variables of a unit by which it removes the literal, or None where it doesn't.
-fn removing(alloc: Global, l: &Literal, u: &Numbered) -> Mem<Option<Items<Term>>>
+fn removing(alloc: Global, l: &Literal, u: &Numbered) -> Mem<Option<List<Term>>>
     ensures { IfOk result (λ found. MatchOption found (¬ Removes l.now u.now) (IsRemoval l.now u.now)) }
 {
     match u.clause.literals.as_slice() {
@@ -63,7 +61,7 @@ fn opposite(alloc: Global, l: &Literal) -> Mem<Clause>
 {
     let mut turned = copy_literal(alloc, l)?;
     turned.positive = !l.positive;
-    let mut literals = Items::new(alloc);
+    let mut literals = List::new(alloc);
     literals.push(turned)?;
     Ok(Clause { literals })
 }
@@ -72,10 +70,10 @@ fn opposite(alloc: Global, l: &Literal) -> Mem<Clause>
 fn cut(
     alloc: Global,
     clause: Clause,
-    lines: &mut Items<Line>,
+    lines: &mut List<Line>,
     at: usize,
     u: &Numbered,
-    terms: Items<Term>,
+    terms: List<Term>,
 ) -> Mem<Clause>
     requires there { at < length clause.literals }
     requires light { of.weight clause ≤ 10000 }
@@ -129,7 +127,7 @@ pub fn unit_delete_by(alloc: Global, made: Made, units: &[&Numbered]) -> Mem<Mad
 /// differ. The lines have to check over some clauses that have the units at their numbers; over all such clauses the
 /// answer's lines check too. No line is added to 4,294,967,292 or more, as their numbers are of u32: that is answered as
 /// want of memory.
-pub fn unit_delete(alloc: Global, made: Made, units: &Items<Numbered>) -> Mem<Made>
+pub fn unit_delete(alloc: Global, made: Made, units: &List<Numbered>) -> Mem<Made>
     requires differ { AllPairs (λ p q. p.number ≢ q.number) units.now }
     requires checks { ChecksWith units.now made.lines }
     ensures deletes { IfOk result (λ after. Exhausts (DeletesOnce units.now) made.lines after.lines) }

@@ -4,7 +4,7 @@ use Rattle.std.specs.Option.{IsSomeAnd}
 use Rattle.std.specs.List.{All, AllZip, AllPairs}
 use Rattle.std.proofs.lemmas.List.{length-map, get_or-map, take_all}
 use Rattle.std.proofs.lemmas.Option.{slice_get_within, get_or_from_slice_get}
-use Rattle.sc_data.specs.Numbering.{numbered}
+use Rattle.sc_term.specs.Numbering.{numbered}
 use Rattle.sc_term.specs.declared.symbol.Symbol.{Symbol}
 use Rattle.sc_interp.specs.declared.table.Table.{Table}
 use Rattle.sc_interp.specs.Structure.{Structure, IsStructure, IsTable, IsTableOf, AreTablesOf, HasPlace, MayHold, entry, entry_at, place_of, values_below}

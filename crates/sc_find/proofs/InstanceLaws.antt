@@ -4,12 +4,12 @@ use Rattle.std.specs.Option.{IsSomeAnd}
 use Rattle.std.specs.List.{All, Contains}
 use Rattle.std.proofs.lemmas.List.Elements.{All-contains, All-push, Contains-push, Contains-append_left}
 use Rattle.std.proofs.lemmas.Option.{slice_get-get_or, slice_get_within, get_or_from_slice_get}
-use Rattle.sc_data.specs.declared.Clause.{Clause}
-use Rattle.sc_data.specs.Clause.{width}
+use Rattle.sc_term.specs.declared.Clause.{Clause}
+use Rattle.sc_term.specs.Clause.{width}
 use Rattle.sc_cells.specs.declared.instances.GroundInstance.{GroundInstance}
 use Rattle.sc_cells.specs.Cells.{Entry, Prefix, IsFalseBy, IsConsistent}
 use Rattle.sc_cells.specs.Ground.{AreInstances, IsInstance}
-use Rattle.sc_given.specs.Reading.{IsLeft}
+use Rattle.sc_find_given.specs.Reading.{IsLeft}
 use Rattle.sc_find.specs.Prepared.{IsFalseInstance, IsUnread, AreReaders}
 use Rattle.sc_find.proofs.PrefixLaws.{elements_of, elements_long, elements_within, false_at_elements, list_within}
 

@@ -7,7 +7,7 @@ use Rattle.sc_cells.specs.Cells.{Entry, Prefix, AreCells, AreValues, IsConsisten
 use Rattle.sc_cells.specs.Order.{IsBefore}
 use Rattle.sc_find.specs.declared.answer.Piece.{Piece}
 use Rattle.sc_find.specs.declared.answer.Piece.TheVariants.{Whole, First}
-use Rattle.sc_find.specs.Models.{Task, IsInPiece, IsPiece, IsModel, HasNoModel, AreTablesWith, IsFirstModel}
+use Rattle.sc_find.specs.Models.{Task, IsInPiece, IsPiece, IsModel, FindsNoModel, AreTablesWith, IsFirstModel}
 use Rattle.sc_find.specs.Answers.{IsAsked, value_in, NoneBefore}
 use Rattle.sc_find.specs.Search.{IsFirst}
 use Rattle.sc_find.proofs.PrefixLaws.{shorter_is_consistent}
@@ -41,11 +41,11 @@ asked_is task (First p) value cells are is = by (nat_eq (length cells) 0) refl i
 
 -- ---- answers
 
-pub no_model : (task : Task) (piece : Option ℕ) (cells : List Entry) → AreCells task.sig task.size cells → ((values : List ℕ) → ¬ IsModel task piece cells values) → HasNoModel task piece
+pub no_model : (task : Task) (piece : Option ℕ) (cells : List Entry) → AreCells task.sig task.size cells → ((values : List ℕ) → ¬ IsModel task piece cells values) → FindsNoModel task piece
 no_model task piece cells are none others values h m =
     none values (subst (λ cs. IsModel task piece cs values) (one_list task.sig task.size others cells h are) m)
 
-pub none_at_all : (task : Task) (piece : Option ℕ) (p : Prefix) → AreCells task.sig task.size p.cells → p.values ≡ [] → ¬ IsConsistent task.clauses task.size p → HasNoModel task piece
+pub none_at_all : (task : Task) (piece : Option ℕ) (p : Prefix) → AreCells task.sig task.size p.cells → p.values ≡ [] → ¬ IsConsistent task.clauses task.size p → FindsNoModel task piece
 none_at_all task piece p are empty never = no_model task piece p.cells are (λ values m.
     never (subst (λ vs. IsConsistent task.clauses task.size (record { cells = p.cells; values = vs })) (sym empty) (shorter_is_consistent task.clauses task.size p.cells [] values m.1.consistent)))
 
@@ -91,7 +91,7 @@ piece_of task cells values are m = by cells values refl refl m
           ),
         )
 
-pub none_of_all : (task : Task) (end count : ℕ) → end ≡ count + 1 → ((p : ℕ) (piece : Option ℕ) → IsPiece task p piece → (1 ≤ p) × (p ≤ count)) → NoneBefore task end → HasNoModel task None
+pub none_of_all : (task : Task) (end count : ℕ) → end ≡ count + 1 → ((p : ℕ) (piece : Option ℕ) → IsPiece task p piece → (1 ≤ p) × (p ≤ count)) → NoneBefore task end → FindsNoModel task None
 none_of_all task end count is few none cells values are m =
     let of = piece_of task cells values are m in
     let within = few of.0 of.1 of.2 in
@@ -167,12 +167,12 @@ first_of_all task p piece t is none h = record {
   tables = h.tables;
 }
 
-pub none_more : (task : Task) (p : ℕ) (piece : Option ℕ) → IsPiece task p piece → HasNoModel task piece → NoneBefore task p → NoneBefore task (p + 1)
+pub none_more : (task : Task) (p : ℕ) (piece : Option ℕ) → IsPiece task p piece → FindsNoModel task piece → NoneBefore task p → NoneBefore task (p + 1)
 none_more task p piece is never h q other less is_other = by (nat_eq q p) refl
   where
-    by : (b : Bool) → nat_eq q p ≡ b → HasNoModel task other
+    by : (b : Bool) → nat_eq q p ≡ b → FindsNoModel task other
     by false unlike = h q other (omega (arith, less, eqb-false q p unlike)) is_other
-    by true same = subst (HasNoModel task) (value_same (eqb-true q p same)) never
+    by true same = subst (FindsNoModel task) (value_same (eqb-true q p same)) never
       where
         cells : is.0 ≡ is_other.0
         cells = one_list task.sig task.size is.0 is_other.0 is.1 is_other.1

@@ -4,15 +4,15 @@ use Rattle.std.proofs.Common.{◌≡◌, ◌∙◌, sym, ap, subst, refl, ℕ, z
 use Rattle.std.specs.List.{All, AllByRecursion, range_with_len}
 use Rattle.std.proofs.lemmas.List.Elements.{All-cons, All-head, All-tail, All-weaker}
 use Rattle.std.proofs.lemmas.List.FromFn.{length-map-range_with_len, get_or-map-range_with_len}
-use Rattle.sc_data.specs.declared.SymId.{SymId}
-use Rattle.sc_data.specs.declared.Term.{Term, Var}
-use Rattle.sc_data.specs.declared.Term.TheVariants.{App}
-use Rattle.sc_data.specs.declared.Literal.{Literal}
-use Rattle.sc_data.specs.declared.Clause.{Clause}
-use Rattle.sc_data.specs.Term.{term_width}
-use Rattle.sc_data.specs.Clause.{literal_width, width}
-use Rattle.sc_data.specs.Interpretation.{Assignment, are_equal}
-use Rattle.sc_data.proofs.TermLaws.{term_ind, fold-Var, fold-App, width-Var, width-App}
+use Rattle.sc_term.specs.declared.SymId.{SymId}
+use Rattle.sc_term.specs.declared.Term.{Term, Var}
+use Rattle.sc_term.specs.declared.Term.TheVariants.{App}
+use Rattle.sc_term.specs.declared.Literal.{Literal}
+use Rattle.sc_term.specs.declared.Clause.{Clause}
+use Rattle.sc_term.specs.Term.{term_width}
+use Rattle.sc_term.specs.Clause.{literal_width, width}
+use Rattle.sc_term.specs.Interpretation.{Assignment, are_equal}
+use Rattle.sc_term.proofs.TermLaws.{term_ind, fold-Var, fold-App, width-Var, width-App}
 use Rattle.sc_cells.specs.Cells.{Entry, Prefix, is_cell_of, given_among, given_value, onto, all_given, given_step, given_term, given_atom, IsFalseBy, IsConsistent}
 
 -- ---- options

@@ -5,8 +5,8 @@ use Rattle.std.specs.List.{AllPairs}
 use Rattle.std.proofs.lemmas.Bool.{eqb-true, eqb-false}
 use Rattle.std.proofs.lemmas.List.{length-set, get_or-set_same, get_or-set_other}
 use Rattle.std.proofs.lemmas.Option.{slice_get_within, get_or_from_slice_get}
-use Rattle.sc_data.specs.declared.SymId.{SymId}
-use Rattle.sc_data.specs.Numbering.{numbered}
+use Rattle.sc_term.specs.declared.SymId.{SymId}
+use Rattle.sc_term.specs.Numbering.{numbered}
 use Rattle.sc_interp.specs.declared.table.Table.{Table}
 use Rattle.sc_interp.specs.Structure.{Structure, HasPlace, MayHold, entry_in, entry_at, with_entry, with_entry_in, values_below}
 use Rattle.sc_cells.specs.declared.cells.Cell.{Cell}

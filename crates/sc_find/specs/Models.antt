@@ -1,6 +1,6 @@
 -- The first model of a size, and the count of nodes of a plain search for it.
 use Rattle.std.specs.Prelude.{◌≡◌, ◌<◌, ◌≤◌, ◌+◌, ◌⊎◌, ℕ, List, [], ◌∷◌, Option, Some, None, All, AllPairs, length, slice_get, slice_index}
-use Rattle.sc_data.specs.declared.Clause.{Clause}
+use Rattle.sc_term.specs.declared.Clause.{Clause}
 use Rattle.sc_term.specs.declared.symbol.Symbol.{Symbol}
 use Rattle.sc_interp.specs.Structure.{Structure, AreTablesOf, entry}
 use Rattle.sc_cells.specs.Cells.{Entry, AreCells, AreValues, values_below, IsConsistent}
@@ -40,8 +40,8 @@ pub record IsOpenPrefix (task : Task) (piece : Option ℕ) (cells : List Entry) 
 abbrev pub IsModel : Task → Option ℕ → List Entry → List ℕ → Type 0
 IsModel task piece cells values = (length values ≡ length cells) × IsOpenPrefix task piece cells values
 
-abbrev pub HasNoModel : Task → Option ℕ → Type 0
-HasNoModel task piece = (cells : List Entry) (values : List ℕ) → AreCells task.sig task.size cells → ¬ IsModel task piece cells values
+abbrev pub FindsNoModel : Task → Option ℕ → Type 0
+FindsNoModel task piece = (cells : List Entry) (values : List ℕ) → AreCells task.sig task.size cells → ¬ IsModel task piece cells values
 
 -- tables over the signature that have the values in the cells
 pub record AreTablesWith (task : Task) (cells : List Entry) (values : List ℕ) (t : Structure) : Type 0 where

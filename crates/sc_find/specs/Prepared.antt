@@ -1,6 +1,6 @@
 -- What a job keeps for its searches: cells and instances, and which instances may read each cell.
 use Rattle.std.specs.Prelude.{◌≡◌, ◌<◌, ◌≤◌, ◌⊎◌, ℕ, List, [], ◌∷◌, ◌++◌, Some, IsSomeAnd, All, Contains, map, length, slice_get, slice_index}
-use Rattle.sc_data.specs.declared.Clause.{Clause}
+use Rattle.sc_term.specs.declared.Clause.{Clause}
 use Rattle.sc_cells.specs.declared.cells.Cell.{Cell}
 use Rattle.sc_cells.specs.declared.instances.GroundInstance.{GroundInstance}
 use Rattle.sc_cells.specs.Cells.{Entry, Prefix, AreCells, cell_at, cell_count, IsFalseBy}

@@ -2,8 +2,8 @@
 use Rattle.std.specs.Prelude.{◌≡◌, ◌+◌, ℕ, zero, suc, List, Option, Some, None, min}
 use Rattle.sc_cells.specs.Cells.{Entry, Prefix}
 use Rattle.sc_cells.specs.Order.{IsBefore}
-use Rattle.sc_find.specs.declared.search.Ended.{Ended}
-use Rattle.sc_find.specs.declared.search.Ended.TheVariants.{Full, Exhausted, Spent}
+use Rattle.sc_find.specs.declared.search.SearchEnd.{SearchEnd}
+use Rattle.sc_find.specs.declared.search.SearchEnd.TheVariants.{Full, Exhausted, Spent}
 use Rattle.sc_find.specs.Models.{Task, IsModel, ExceedsBudget}
 
 -- the first value of cell 0: no cell has 8
@@ -23,7 +23,7 @@ pub record IsFirst (task : Task) (piece : Option ℕ) (cells : List Entry) (p : 
   pub model : IsModel task piece cells p.values
   pub least : (others : List ℕ) → IsModel task piece cells others → ¬ IsBefore others p.values
 
-abbrev pub HasEnded : Task → Option ℕ → ℕ → List Entry → Prefix → Ended → Type 0
+abbrev pub HasEnded : Task → Option ℕ → ℕ → List Entry → Prefix → SearchEnd → Type 0
 HasEnded task piece budget cells p Full = IsFirst task piece cells p
 HasEnded task piece budget cells p Exhausted = (values : List ℕ) → ¬ IsModel task piece cells values
 HasEnded task piece budget cells p Spent = ExceedsBudget task piece budget

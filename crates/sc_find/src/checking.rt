@@ -5,8 +5,8 @@ ghost use Rattle.sc_cells.specs.declared.instances.GroundInstance.{GroundInstanc
 ghost use Rattle.sc_find.specs.Prepared.{IsFalseInstance, IsUnread};
 
 use sc_cells::GroundInstance;
-use sc_data::Clause;
-use sc_given::Given;
+use sc_find_given::Given;
+use sc_term::Clause;
 
 fn is_false(given: &Given, clauses: &[Clause], instance: &GroundInstance) -> bool
     requires { instance.now.place < length clauses.now }

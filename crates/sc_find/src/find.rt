@@ -6,8 +6,8 @@ ghost use Rattle.sc_find.specs.Answers.{IsAsked, IsFound, value_in};
 
 use crate::answer::{Found, Piece};
 use crate::job::Job;
-use crate::search::{Ended, search};
-use sc_given::Given;
+use crate::search::{SearchEnd, search};
+use sc_find_given::Given;
 use sc_term::Mem;
 use std::alloc::Global;
 
@@ -35,9 +35,9 @@ fn found(alloc: Global, job: &Job, value: Option<u8>, budget: u64, given: &mut G
     ensures { IfOk result (λ found. IsFound job.now value budget found) }
 {
     match search(job, value, budget, given) {
-        Ended::Full => Ok(Found::Model(job.tables_with(alloc, given.values())?)),
-        Ended::Exhausted => Ok(Found::None),
-        Ended::Spent => Ok(Found::Spent),
+        SearchEnd::Full => Ok(Found::Model(job.tables_with(alloc, given.values())?)),
+        SearchEnd::Exhausted => Ok(Found::None),
+        SearchEnd::Spent => Ok(Found::Spent),
     }
 }
 

@@ -12,11 +12,9 @@ use crate::checking::{none_is_false, none_there_is_false};
 use crate::readers::all_readers;
 use crate::tables::{empty_tables, fill};
 use sc_cells::{Cell, CellsError, Ground, GroundError, cells_of, ground};
-use sc_data::Clause;
-use sc_given::Given;
+use sc_find_given::Given;
 use sc_interp::Tables;
-use sc_term::{Mem, Role, Signature};
-use sqlite_items::Items;
+use sc_term::{Clause, List, Mem, Role, Signature};
 use std::alloc::Global;
 use std::marker::Model;
 
@@ -24,16 +22,16 @@ use std::marker::Model;
 #[derive(Drop)]
 pub struct Job<'a> {
     sig: &'a Signature,
-    clauses: &'a Items<Clause>,
+    clauses: &'a List<Clause>,
     size: u8,
-    cells: Items<Cell>,
+    cells: List<Cell>,
     ground: Ground,
-    readers: Vec<Items<usize>>,
+    readers: Vec<List<usize>>,
 }
 
 impl<'a> Model for Job<'a> {
     ghost use Rattle.std.specs.Coded.{codes};
-    ghost use Rattle.sc_data.specs.contracts.Term as term;
+    ghost use Rattle.sc_term.specs.contracts.Term as term;
     ghost use Rattle.sc_find.specs.Models.{Task};
     ghost use Rattle.sc_find.specs.Prepared.{IsPrepared};
 
@@ -46,7 +44,7 @@ impl<'a> Model for Job<'a> {
     ghost invariant = { λ j. IsPrepared (record { sig = j.sig.now; clauses = j.clauses.now; size = j.size }) j.cells j.ground j.readers.items };
 }
 
-fn list_cells(alloc: Global, sig: &Signature, size: u8) -> Result<Items<Cell>, JobError>
+fn list_cells(alloc: Global, sig: &Signature, size: u8) -> Result<List<Cell>, JobError>
     requires not_empty { 1 ≤ size }
     requires small { size ≤ 8 }
     ensures value { IfOk result (λ cells. (entries : AList Entry) × AreCells sig.now size entries × (cells ≡ map (cell_at size) entries)) }
@@ -60,7 +58,7 @@ fn list_cells(alloc: Global, sig: &Signature, size: u8) -> Result<Items<Cell>, J
     }
 }
 
-fn list_instances(alloc: Global, clauses: &Items<Clause>, size: u8) -> Result<Ground, JobError>
+fn list_instances(alloc: Global, clauses: &List<Clause>, size: u8) -> Result<Ground, JobError>
     requires not_empty { 1 ≤ size }
     requires small { size ≤ 8 }
     ensures value { IfOk result (λ instances. AreInstances clauses.now size instances) }
@@ -104,7 +102,7 @@ impl<'a> Job<'a> {
     pub fn new(
         alloc: Global,
         sig: &'a Signature,
-        clauses: &'a Items<Clause>,
+        clauses: &'a List<Clause>,
         size: u8,
     ) -> Result<Job<'a>, JobError>
         requires not_empty { 1 ≤ size }

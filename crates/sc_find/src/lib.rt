@@ -4,7 +4,7 @@
 //! first (cells in order, values rising), that there is none, or that a plain search has more nodes than a budget;
 //! `find_by_pieces` asks so for the values of cell 0, one after another. `specs/Models` says what each answer means.
 //!
-//! It stands on `sc_cells` (cells and instances), on `sc_given` (which literals are false by the values so far) and on
+//! It stands on `sc_cells` (cells and instances), on `sc_find_given` (which literals are false by the values so far) and on
 //! `sc_interp` (tables). The search keeps one list of values, so that no node allocates, and after a value looks only at
 //! the instances that may read its cell.
 #![tactic(auto)]

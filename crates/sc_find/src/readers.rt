@@ -5,10 +5,8 @@ ghost use Rattle.sc_find.specs.Prepared.{AreReaders};
 
 use crate::checking::may_read;
 use sc_cells::GroundInstance;
-use sc_data::Clause;
-use sc_given::Given;
-use sc_term::Mem;
-use sqlite_items::Items;
+use sc_find_given::Given;
+use sc_term::{Clause, List, Mem};
 use std::alloc::Global;
 
 /// The places of the instances that may read the cell of that number.
@@ -18,12 +16,12 @@ fn readers_of(
     instances: &[GroundInstance],
     given: &Given,
     number: usize,
-) -> Mem<Items<usize>>
+) -> Mem<List<usize>>
     requires places { All (λ i. i.place < length clauses.now) instances.now }
     requires number { number < length given.now.cells }
     ensures { IfOk result (λ readers. AreReaders clauses.now instances.now given.now.cells number readers) }
 {
-    let mut readers = Items::new(alloc);
+    let mut readers = List::new(alloc);
     for i in 0..instances.len() {
         if may_read(given, clauses, &instances[i], number) {
             readers.push(i)?;
@@ -38,7 +36,7 @@ pub fn all_readers(
     clauses: &[Clause],
     instances: &[GroundInstance],
     given: &Given,
-) -> Mem<Vec<Items<usize>>>
+) -> Mem<Vec<List<usize>>>
     requires { All (λ i. i.place < length clauses.now) instances.now }
     ensures many { IfOk result (λ all. length all.items ≡ length given.now.cells) }
     ensures each { IfOk result (λ all. (k : ℕ) (readers : AList ℕ) → slice_get all.items k ≡ Some readers → AreReaders clauses.now instances.now given.now.cells k readers) }

@@ -5,14 +5,12 @@ ghost use Rattle.sc_cells.specs.Cells.{AreCells, IsConsistent};
 ghost use Rattle.sc_find.specs.Search.{HasEnded, first_of, end_of};
 
 use crate::job::Job;
-use sc_given::Given;
-
-/// No cell has more values: there are at most 8 elements.
-const MOST_VALUES: u8 = 8;
+use sc_find_given::Given;
+use sc_term::MAX_SIZE;
 
 /// How a search ended: all cells have values, every value was tried, or there would be more nodes than the budget.
 #[derive(Clone, Copy, Debug, PartialEq, Eq)]
-pub enum Ended {
+pub enum SearchEnd {
     Full,
     Exhausted,
     Spent,
@@ -23,7 +21,7 @@ fn first_value(piece: Option<u8>) -> u8
     ensures { result ≡ first_of piece }
 {
     match piece {
-        Some(value) => value.min(MOST_VALUES),
+        Some(value) => value.min(MAX_SIZE),
         None => 0,
     }
 }
@@ -38,9 +36,10 @@ fn end_value(piece: Option<u8>, number: usize, count: u8) -> u8
     }
 }
 
-/// Gives the cells the values of the first model in which cell 0 has the value of the piece, if one is asked for. It
-/// enters at most as many nodes as the budget allows.
-pub fn search(job: &Job, piece: Option<u8>, budget: u64, given: &mut Given) -> Ended
+/// Gives the cells the values of the first model in which cell 0 has the value of the piece, if one is asked for, or
+/// says that there is none or that the plain count of nodes exceeds the budget. It gives up before it enters more nodes
+/// than the budget, which no clause says: a better search may go on.
+pub fn search(job: &Job, piece: Option<u8>, budget: u64, given: &mut Given) -> SearchEnd
     requires cells { AreCells job.now.sig job.now.size given.old.cells }
     requires empty { given.old.values ≡ [] }
     requires consistent { IsConsistent job.now.clauses job.now.size given.old }
@@ -54,7 +53,7 @@ pub fn search(job: &Job, piece: Option<u8>, budget: u64, given: &mut Given) -> E
         if next < end {
             if job.enters(given, next) {
                 if nodes == budget {
-                    return Ended::Spent;
+                    return SearchEnd::Spent;
                 }
                 nodes += 1;
                 next = 0;
@@ -63,10 +62,10 @@ pub fn search(job: &Job, piece: Option<u8>, budget: u64, given: &mut Given) -> E
             }
         } else {
             if number == 0 {
-                return Ended::Exhausted;
+                return SearchEnd::Exhausted;
             }
             next = given.pop() + 1;
         }
     }
-    Ended::Full
+    SearchEnd::Full
 }

@@ -1,8 +1,6 @@
-use crate::{Found, FoundAll, Job, JobError, Piece, find_by_pieces, find_first};
-use sc_data::{Clause, Literal, SymId, Term};
+use crate::{Found, Job, Piece, find_first};
 use sc_interp::Tables;
-use sc_term::{Mem, Role, Signature, Symbol};
-use sqlite_items::Items;
+use sc_term::{Clause, List, Literal, Mem, Role, Signature, SymId, Symbol, Term};
 use std::alloc::Global;
 
 /// An answer, with the values of two constants for a model.
@@ -27,7 +25,7 @@ fn added(alloc: Global, sig: &mut Signature, name: &[u8], arity: u8) -> Option<S
     if arity > 8 {
         return None;
     }
-    let name = Items::from_slice(alloc, name).ok()?;
+    let name = List::from_slice(alloc, name).ok()?;
     let symbol = Symbol {
         name,
         arity,
@@ -45,17 +43,17 @@ fn constants(alloc: Global) -> Option<Signature> {
 }
 
 /// `a != b`.
-fn apart(alloc: Global) -> Mem<Items<Clause>> {
-    let mut args = Items::new(alloc);
-    args.push(Term::App(SymId(1), Items::new(alloc)))?;
-    args.push(Term::App(SymId(2), Items::new(alloc)))?;
-    let mut literals = Items::new(alloc);
+fn apart(alloc: Global) -> Mem<List<Clause>> {
+    let mut args = List::new(alloc);
+    args.push(Term::App(SymId(1), List::new(alloc)))?;
+    args.push(Term::App(SymId(2), List::new(alloc)))?;
+    let mut literals = List::new(alloc);
     literals.push(Literal {
         positive: false,
         pred: SymId(0),
         args,
     })?;
-    let mut clauses = Items::new(alloc);
+    let mut clauses = List::new(alloc);
     clauses.push(Clause { literals })?;
     Ok(clauses)
 }
@@ -81,37 +79,4 @@ fn two_constants_apart_have_zero_and_one_first(rt: HostRuntime) {
     assert_eq!(rt; first(rt.alloc(), 2, 2), Some(first_model));
     assert_eq!(rt; first(rt.alloc(), 2, 1), Some(Answer::Spent));
     assert_eq!(rt; first(rt.alloc(), 1, 1), Some(Answer::None));
-}
-
-/// The number of pieces of `a != b` at size 2, and the answer by pieces.
-fn pieces(alloc: Global, budget: u64) -> Option<(u32, Answer)> {
-    let sig = constants(alloc)?;
-    let clauses = apart(alloc).ok()?;
-    let job = Job::new(alloc, &sig, &clauses, 2).ok()?;
-    let answer = match find_by_pieces(alloc, &job, budget).ok()? {
-        FoundAll::Model(tables) => model(&tables),
-        FoundAll::None => Answer::None,
-        FoundAll::Spent { piece: _ } => Answer::Spent,
-    };
-    Some((job.pieces(), answer))
-}
-
-/// Why a function of five arguments gives no job of size 8.
-fn wide(alloc: Global) -> Option<JobError> {
-    let mut sig = Signature::new(alloc).ok()?;
-    added(alloc, &mut sig, b"f", 5)?;
-    let clauses = Items::new(alloc);
-    match Job::new(alloc, &sig, &clauses, 8) {
-        Ok(_) => None,
-        Err(error) => Some(error),
-    }
-}
-
-#[test]
-fn pieces_are_searched_in_turn_and_many_cells_are_refused(rt: HostRuntime) {
-    let first_model = Answer::Model(Some(0), Some(1));
-    assert_eq!(rt; pieces(rt.alloc(), 2), Some((2, first_model)));
-    assert_eq!(rt; pieces(rt.alloc(), 0), Some((2, Answer::Spent)));
-    let cells = JobError::Cells { count: 32_768 };
-    assert_eq!(rt; wide(rt.alloc()), Some(cells));
 }

@@ -5,26 +5,26 @@ use Rattle.std.proofs.lemmas.Bool.{eqb-true, eq-eqb}
 use Rattle.std.proofs.lemmas.List.{append-nil, map-append, get_or_append_left}
 use Rattle.std.proofs.lemmas.List.Elements.{All-append, All-contains, Contains-append_cases}
 use Rattle.std.proofs.lemmas.Option.{slice_get_within, get_or_from_slice_get}
-use Rattle.sc_data.specs.declared.Term.{Var}
-use Rattle.sc_data.specs.declared.Literal.{Literal}
-use Rattle.sc_data.specs.declared.Pair.{Pair}
-use Rattle.sc_data.specs.Refuted.{atom_of}
-use Rattle.sc_data.specs.Substitution.{Unify, literal_under}
-use Rattle.sc_rules.specs.declared.site.HyperSite.{HyperSite}
-use Rattle.sc_rules.specs.declared.site.Pick.{Pick}
-use Rattle.sc_rules.specs.Order.{IsBefore}
-use Rattle.sc_rules.specs.Hyperresolution.{hyper_numbers, picked_numbers}
-use Rattle.sc_rules.specs.Pairing.{HaveOppositeSigns}
-use Rattle.sc_rules.proofs.PairLaws.{opposite_one}
-use Rattle.sc_rules.proofs.Enumerations.{all_of_one, in_one}
-use Rattle.sc_rules.proofs.FilterLaws.{in_first, in_second}
-use Rattle.sc_rules.proofs.OrderLaws.{at_first, later, first_or_later}
-use Rattle.sc_rules.proofs.StepLaws.{same_some}
+use Rattle.sc_term.specs.declared.Term.{Var}
+use Rattle.sc_term.specs.declared.Literal.{Literal}
+use Rattle.sc_term.specs.declared.Pair.{Pair}
+use Rattle.sc_term.specs.Refuted.{atom_of}
+use Rattle.sc_term.specs.Substitution.{Unify, literal_under}
+use Rattle.sc_core_rules.specs.declared.site.HyperSite.{HyperSite}
+use Rattle.sc_core_rules.specs.declared.site.Pick.{Pick}
+use Rattle.sc_core_rules.specs.Order.{IsBefore}
+use Rattle.sc_core_rules.specs.Hyperresolution.{hyper_numbers, picked_numbers}
+use Rattle.sc_core_rules.specs.Pairing.{HaveOppositeSigns}
+use Rattle.sc_core_rules.proofs.PairLaws.{opposite_one}
+use Rattle.sc_core_rules.proofs.Enumerations.{all_of_one, in_one}
+use Rattle.sc_core_rules.proofs.FilterLaws.{in_first, in_second}
+use Rattle.sc_term.proofs.ContainsLaws.{at_first, later, first_or_later}
+use Rattle.sc_core_rules.proofs.StepLaws.{same_some}
 use Rattle.sc_resolve.specs.Extending.{Extends, Below}
 use Rattle.sc_resolve.proofs.Extending.{Rising, same, one, nothing}
 use Rattle.sc_resolve.proofs.LiteralLaws.{at_contains}
 use Rattle.sc_hyper.specs.declared.candidates.Candidate.{Candidate}
-use Rattle.sc_hyper.specs.declared.choice.Choice.{Choice}
+use Rattle.sc_hyper.specs.declared.choice.PartialSite.{PartialSite}
 use Rattle.sc_hyper.specs.Candidates.{candidate_numbers, DoRise}
 use Rattle.sc_hyper.specs.Choosing.{has, pick_of, pair_with, pairs_of, low_after, IsNext, AreOpposed, IsRefused, IsChosen, IsChoice, Completes, IsWithNext}
 
@@ -61,12 +61,12 @@ unify_front ps qs u = (
 pub unify_none : (ps : List Pair) → ps ≡ [] → Unify ps
 unify_none ps none = ((λ n. Var n), λ k d less. absurd (omega (arith, ap (λ (qs : List Pair). length qs) none)))
 
-pub chosen_none : (candidates : List Candidate) (low : ℕ) (ls : List Literal) (choice : Choice) → choice.picks ≡ [] → choice.pairs ≡ [] → choice.low ≡ low → IsChosen candidates low ls [] choice
+pub chosen_none : (candidates : List Candidate) (low : ℕ) (ls : List Literal) (choice : PartialSite) → choice.picks ≡ [] → choice.pairs ≡ [] → choice.low ≡ low → IsChosen candidates low ls [] choice
 chosen_none candidates low ls choice picks pairs low_is = record { among = λ k d less. absurd (omega arith); picks = picks; pairs = pairs ∙ sym (no_pairs low ls); signs = λ k d less. absurd (omega (arith, ap (λ (qs : List Pair). length qs) pairs)); low_is = low_is }
 
 -- ---- one candidate more
 
-module _ (candidates : List Candidate) (low : ℕ) (ls : List Literal) (cs : List Candidate) (choice : Choice) (chosen : IsChosen candidates low ls cs choice) where
+module _ (candidates : List Candidate) (low : ℕ) (ls : List Literal) (cs : List Candidate) (choice : PartialSite) (chosen : IsChosen candidates low ls cs choice) where
   pub as_many : length choice.picks ≡ length cs
   as_many = ap (λ (ps : List Pick). length ps) chosen.picks ∙ length_map cs
     where
@@ -81,7 +81,7 @@ module _ (candidates : List Candidate) (low : ℕ) (ls : List Literal) (cs : Lis
     pairs_so : choice.pairs ++ pair_with choice.low l next ∷ [] ≡ pairs_of low ls (cs ++ next ∷ [])
     pairs_so = (λ i. chosen.pairs i ++ pair_with (chosen.low_is i) l next ∷ []) ∙ sym (pairs_snoc low ls cs l next at_end)
 
-    pub chosen_next : (longer : Choice) → IsNext choice l next longer → Contains candidates next → IsChosen candidates low ls (cs ++ next ∷ []) longer
+    pub chosen_next : (longer : PartialSite) → IsNext choice l next longer → Contains candidates next → IsChosen candidates low ls (cs ++ next ∷ []) longer
     chosen_next longer e listed = record {
       among = All-append (Contains candidates) cs (next ∷ []) chosen.among (all_of_one (Contains candidates) next listed);
       picks = e.extended.picks ∙ ap (λ (ps : List Pick). ps ++ pick_of next ∷ []) chosen.picks ∙ sym (map-append pick_of cs (next ∷ []));
@@ -220,7 +220,7 @@ no_given_there nucleus given ps next other none h = by (Contains-append_cases (n
     by (inl k) = has_not given (as_pick nucleus ∷ ps) none k
     by (inr k) = let bad : true ≡ false = sym (eq-eqb next.number given (in_one next.number given k)) ∙ other in cc
 
-pub refused : (nucleus given : ℕ) (candidates : List Candidate) (low : ℕ) (ls : List Literal) (cs : List Candidate) (choice : Choice) → IsChosen candidates low ls cs choice
+pub refused : (nucleus given : ℕ) (candidates : List Candidate) (low : ℕ) (ls : List Literal) (cs : List Candidate) (choice : PartialSite) → IsChosen candidates low ls cs choice
     → (l : Literal) (next : Candidate) → slice_get ls (length choice.picks) ≡ Some l → (last : Bool) → (last ≡ true → length choice.picks + 1 ≡ length ls)
     → IsRefused nucleus given choice l next last → (x : HyperSite) → ¬ Completes nucleus given candidates low ls (cs ++ next ∷ []) x
 refused nucleus given candidates low ls cs choice chosen l next there last whole (inl none) x h = cannot candidates low ls cs choice chosen l next there nucleus given x none h

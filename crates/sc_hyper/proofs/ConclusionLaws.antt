@@ -4,30 +4,30 @@ use Rattle.std.specs.Prelude.{IsSomeAnd, MatchOption}
 use Rattle.std.specs.List.{All, AllPairs, Contains}
 use Rattle.std.proofs.lemmas.List.{length-map}
 use Rattle.std.proofs.lemmas.Option.{MatchOption-at_some}
-use Rattle.sc_data.specs.declared.Term.{Term}
-use Rattle.sc_data.specs.declared.Literal.{Literal}
-use Rattle.sc_data.specs.declared.Clause.{Clause}
-use Rattle.sc_data.specs.declared.Line.{Line}
-use Rattle.sc_data.specs.declared.Numbered.{Numbered}
-use Rattle.sc_data.specs.declared.Pair.{Pair}
-use Rattle.sc_data.specs.Numbering.{numbered}
-use Rattle.sc_data.specs.Clause.{width}
-use Rattle.sc_data.specs.Substitution.{Unify, clause_under}
-use Rattle.sc_data.specs.JointInstance.{IsJointInstance, apart, apart_above, shift}
-use Rattle.sc_steps.specs.declared.derivation.Derived.{Derived}
-use Rattle.sc_steps.specs.declared.made.Made.{Made}
-use Rattle.sc_rules.specs.declared.site.HyperSite.{HyperSite}
-use Rattle.sc_rules.specs.declared.site.UrSite.{UrSite}
-use Rattle.sc_rules.specs.declared.site.Pick.{Pick}
+use Rattle.sc_term.specs.declared.Term.{Term}
+use Rattle.sc_term.specs.declared.Literal.{Literal}
+use Rattle.sc_term.specs.declared.Clause.{Clause}
+use Rattle.sc_term.specs.declared.Line.{Line}
+use Rattle.sc_term.specs.declared.Numbered.{Numbered}
+use Rattle.sc_term.specs.declared.Pair.{Pair}
+use Rattle.sc_term.specs.Numbering.{numbered}
+use Rattle.sc_term.specs.Clause.{width}
+use Rattle.sc_term.specs.Substitution.{Unify, clause_under}
+use Rattle.sc_term.specs.JointInstance.{IsJointInstance, apart, apart_above, shift}
+use Rattle.sc_steps.specs.declared.derivations.derivation.Derived.{Derived}
+use Rattle.sc_steps.specs.declared.derivations.made.Made.{Made}
+use Rattle.sc_core_rules.specs.declared.site.HyperSite.{HyperSite}
+use Rattle.sc_core_rules.specs.declared.site.UrSite.{UrSite}
+use Rattle.sc_core_rules.specs.declared.site.Pick.{Pick}
 use Rattle.sc_steps.proofs.LineLaws.{some_so}
-use Rattle.sc_rules.specs.Order.{IsBefore}
-use Rattle.sc_rules.specs.Derivation.{AddsParts}
-use Rattle.sc_rules.specs.Inference.{Inference, Concludes, Ending, Ends}
-use Rattle.sc_rules.specs.Pairing.{HaveOppositeSigns}
-use Rattle.sc_rules.specs.Hyperresolution.{IsHyper, IsUr, IsPositive, AreNamed, AreLiteralsWith, picked_numbers, picked_literals, unit_literals}
-use Rattle.sc_rules.proofs.Enumerations.{in_none}
-use Rattle.sc_rules.proofs.OrderLaws.{in_order_is_one}
-use Rattle.sc_rules.proofs.StepLaws.{same_some}
+use Rattle.sc_core_rules.specs.Order.{IsBefore}
+use Rattle.sc_core_rules.specs.Derivation.{AddsParts}
+use Rattle.sc_core_rules.specs.Inference.{Inference, Concludes, Ending, Ends}
+use Rattle.sc_core_rules.specs.Pairing.{HaveOppositeSigns}
+use Rattle.sc_core_rules.specs.Hyperresolution.{IsHyper, IsUr, IsPositive, AreNamed, AreLiteralsWith, picked_numbers, picked_literals, unit_literals}
+use Rattle.sc_core_rules.proofs.Enumerations.{in_none}
+use Rattle.sc_core_rules.proofs.OrderLaws.{in_order_is_one}
+use Rattle.sc_core_rules.proofs.StepLaws.{same_some}
 use Rattle.sc_resolve.specs.Kept.{IsKept}
 use Rattle.sc_resolve.specs.Parts.{IsOutside, AreJoint}
 use Rattle.sc_resolve.proofs.KeptLaws.{kept_length}

@@ -1,7 +1,7 @@
 -- Lists that grow by all things of which something holds.
 use Rattle.std.proofs.Common.{◌≡◌, ◌∙◌, sym, ap, subst, ℕ, ◌+◌, ◌-◌, ◌<◌, ◌⊎◌, inl, inr, List, [], length, length-append, arith}
 use Rattle.std.specs.List.{Contains, All}
-use Rattle.sc_rules.specs.Order.{IsBefore, AreInOrder}
+use Rattle.sc_core_rules.specs.Order.{IsBefore, AreInOrder}
 use Rattle.sc_resolve.specs.Extending.{Extends, Below}
 use Rattle.sc_resolve.proofs.Extending.{Rising, goes_on}
 

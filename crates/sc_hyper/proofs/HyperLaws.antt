@@ -5,25 +5,25 @@ use Rattle.std.specs.List.{Contains, All, AllZip}
 use Rattle.std.specs.Option.{option_map}
 use Rattle.std.proofs.lemmas.Option.{slice_get_within, get_or_from_slice_get, slice_get-map}
 use Rattle.std.proofs.lemmas.List.Elements.{All-contains}
-use Rattle.sc_data.specs.declared.Term.{Var}
-use Rattle.sc_data.specs.declared.Literal.{Literal}
-use Rattle.sc_data.specs.declared.Clause.{Clause}
-use Rattle.sc_data.specs.declared.Numbered.{Numbered}
-use Rattle.sc_data.specs.declared.Pair.{Pair}
-use Rattle.sc_data.specs.Numbering.{numbered}
-use Rattle.sc_data.specs.Clause.{width}
-use Rattle.sc_data.specs.Substitution.{Substitution, Unify, literal_under}
-use Rattle.sc_data.specs.JointInstance.{apart, apart_above, shift}
-use Rattle.sc_data.proofs.SubstitutionLaws.{clause_laws}
+use Rattle.sc_term.specs.declared.Term.{Var}
+use Rattle.sc_term.specs.declared.Literal.{Literal}
+use Rattle.sc_term.specs.declared.Clause.{Clause}
+use Rattle.sc_term.specs.declared.Numbered.{Numbered}
+use Rattle.sc_term.specs.declared.Pair.{Pair}
+use Rattle.sc_term.specs.Numbering.{numbered}
+use Rattle.sc_term.specs.Clause.{width}
+use Rattle.sc_term.specs.Substitution.{Substitution, Unify, literal_under}
+use Rattle.sc_term.specs.JointInstance.{apart, apart_above, shift}
+use Rattle.sc_term.proofs.SubstitutionLaws.{clause_laws}
 use Rattle.sc_steps.proofs.ListLaws.{some_and}
-use Rattle.sc_rules.specs.declared.site.HyperSite.{HyperSite}
-use Rattle.sc_rules.specs.declared.site.Pick.{Pick}
-use Rattle.sc_rules.specs.Order.{IsBefore}
-use Rattle.sc_rules.specs.Pairing.{literal_at, literal_in, ArePairs, HaveOppositeSigns, places_in, places_from}
-use Rattle.sc_rules.specs.Inference.{Inference, Resolving}
-use Rattle.sc_rules.specs.Hyperresolution.{IsHyper, IsPositive, AreNamed, AreHyperSites, hyper_numbers, picked_numbers, picked_literals}
-use Rattle.sc_rules.proofs.OrderLaws.{in_order_is_one}
-use Rattle.sc_rules.proofs.StepLaws.{same_some}
+use Rattle.sc_core_rules.specs.declared.site.HyperSite.{HyperSite}
+use Rattle.sc_core_rules.specs.declared.site.Pick.{Pick}
+use Rattle.sc_core_rules.specs.Order.{IsBefore}
+use Rattle.sc_core_rules.specs.Pairing.{literal_at, literal_in, ArePairs, HaveOppositeSigns, places_in, places_from}
+use Rattle.sc_core_rules.specs.Inference.{Inference, Resolving}
+use Rattle.sc_core_rules.specs.Hyperresolution.{IsHyper, IsPositive, AreNamed, AreHyperSites, hyper_numbers, picked_numbers, picked_literals}
+use Rattle.sc_core_rules.proofs.OrderLaws.{in_order_is_one}
+use Rattle.sc_core_rules.proofs.StepLaws.{same_some}
 use Rattle.sc_resolve.specs.ByNumber.{AreByNumber}
 use Rattle.sc_resolve.specs.Extending.{Extends, Below}
 use Rattle.sc_resolve.proofs.Extending.{Rising, same, nothing}

@@ -3,8 +3,8 @@ use Rattle.std.proofs.Common.{◌≡◌, ◌≢◌, ◌∙◌, sym, ap, ℕ, ◌
 use Rattle.std.specs.List.{All, AllPairs, Contains}
 use Rattle.std.proofs.lemmas.List.Elements.{All-contains}
 use Rattle.std.proofs.lemmas.Option.{slice_get-get_or}
-use Rattle.sc_data.specs.declared.Numbered.{Numbered}
-use Rattle.sc_rules.specs.Hyperresolution.{AreNamed}
+use Rattle.sc_term.specs.declared.Numbered.{Numbered}
+use Rattle.sc_core_rules.specs.Hyperresolution.{AreNamed}
 use Rattle.sc_resolve.specs.Kept.{IsKept}
 use Rattle.sc_hyper.specs.Making.{AreOneByNumber}
 use Rattle.sc_hyper.proofs.ListPieces.{take_next, take_all, zip_at, zip_right, zip_long, all_so, one_of_number, differ_so}

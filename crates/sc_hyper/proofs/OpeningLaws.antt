@@ -1,18 +1,18 @@
 -- The lines of the parts of several parents, parent by parent.
 use Rattle.std.proofs.Common.{◌≡◌, ◌∙◌, sym, ap, subst, refl, ℕ, zero, suc, ◌+◌, ◌⊎◌, inl, inr, List, [], ◌∷◌, ◌++◌, length, length-append, map, take, Some, None, Option, slice_get, append-nil, arith}
 use Rattle.std.specs.List.{Contains}
-use Rattle.sc_data.specs.declared.Term.{Term}
-use Rattle.sc_data.specs.declared.Literal.{Literal}
-use Rattle.sc_data.specs.declared.Clause.{Clause}
-use Rattle.sc_data.specs.declared.Line.{Line}
-use Rattle.sc_data.specs.declared.Numbered.{Numbered}
-use Rattle.sc_data.specs.Term.{joined}
-use Rattle.sc_data.specs.Clause.{instance, width, IsWithinLimits}
-use Rattle.sc_data.specs.Proof.{clause_of}
-use Rattle.sc_data.specs.JointInstance.{whole}
+use Rattle.sc_term.specs.declared.Term.{Term}
+use Rattle.sc_term.specs.declared.Literal.{Literal}
+use Rattle.sc_term.specs.declared.Clause.{Clause}
+use Rattle.sc_term.specs.declared.Line.{Line}
+use Rattle.sc_term.specs.declared.Numbered.{Numbered}
+use Rattle.sc_term.specs.Term.{joined}
+use Rattle.sc_term.specs.Clause.{instance, width, IsWithinLimits}
+use Rattle.sc_term.specs.Proof.{clause_of}
+use Rattle.sc_term.specs.JointInstance.{whole}
 use Rattle.sc_unify.specs.Joint.{AreTermsOf}
 use Rattle.sc_steps.specs.Derivation.{IsInputAt}
-use Rattle.sc_rules.specs.Derivation.{AddsPart, AddsParts}
+use Rattle.sc_core_rules.specs.Derivation.{AddsPart, AddsParts}
 use Rattle.sc_resolve.specs.Lines.{IsKnown, HasPart}
 use Rattle.sc_resolve.proofs.PartLaws.{NoMore, within_so, both_no_more}
 use Rattle.sc_hyper.specs.Making.{clauses_of, AreOneByNumber, AreTold, IsOpened}

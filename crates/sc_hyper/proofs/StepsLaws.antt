@@ -1,18 +1,18 @@
 -- Resolving a clause with several parts, one after the other.
 use Rattle.std.proofs.Common.{◌≡◌, ◌∙◌, sym, ap, subst, refl, ℕ, suc, ◌+◌, ◌-◌, ◌<◌, ◌≤◌, List, [], ◌∷◌, ◌++◌, append_assoc, length, length-append, map, Some, None, Option, slice_get, drop, arith}
 use Rattle.std.specs.List.{All, AllZip, AllPairs, AllByRecursion}
-use Rattle.sc_data.specs.declared.Literal.{Literal}
-use Rattle.sc_data.specs.declared.Clause.{Clause}
-use Rattle.sc_data.specs.declared.Line.{Line}
-use Rattle.sc_data.specs.declared.Pair.{Pair}
-use Rattle.sc_data.specs.declared.Step.TheVariants.{Resolve}
-use Rattle.sc_data.specs.Numbering.{numbered, without}
-use Rattle.sc_data.specs.Term.{joined}
-use Rattle.sc_data.specs.Proof.{clause_of}
-use Rattle.sc_data.specs.Substitution.{Substitution, IsUnifier, clause_under, literal_under}
-use Rattle.sc_data.specs.JointInstance.{whole}
-use Rattle.sc_rules.specs.Inference.{Resolving, ResolvesAll, Ends}
-use Rattle.sc_rules.specs.Pairing.{ArePairs, HaveOppositeSigns, literal_in, places_in, places_from}
+use Rattle.sc_term.specs.declared.Literal.{Literal}
+use Rattle.sc_term.specs.declared.Clause.{Clause}
+use Rattle.sc_term.specs.declared.Line.{Line}
+use Rattle.sc_term.specs.declared.Pair.{Pair}
+use Rattle.sc_term.specs.declared.Step.TheVariants.{Resolve}
+use Rattle.sc_term.specs.Numbering.{numbered, without}
+use Rattle.sc_term.specs.Term.{joined}
+use Rattle.sc_term.specs.Proof.{clause_of}
+use Rattle.sc_term.specs.Substitution.{Substitution, IsUnifier, clause_under, literal_under}
+use Rattle.sc_term.specs.JointInstance.{whole}
+use Rattle.sc_core_rules.specs.Inference.{Resolving, ResolvesAll, Ends}
+use Rattle.sc_core_rules.specs.Pairing.{ArePairs, HaveOppositeSigns, literal_in, places_in, places_from}
 use Rattle.sc_resolve.specs.Lines.{IsAdded}
 use Rattle.sc_resolve.specs.Made.{IsOpposed}
 use Rattle.sc_resolve.proofs.LineLaws.{longer, last_there, still_there}

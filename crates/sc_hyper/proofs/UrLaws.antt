@@ -7,23 +7,24 @@ use Rattle.std.proofs.lemmas.List.{length-map}
 use Rattle.std.proofs.lemmas.List.Kept.{AllPairs-cons}
 use Rattle.std.proofs.lemmas.Option.{slice_get_within, get_or_from_slice_get, slice_get-map}
 use Rattle.std.proofs.lemmas.List.Elements.{All-contains}
-use Rattle.sc_data.specs.declared.Literal.{Literal}
-use Rattle.sc_data.specs.declared.Numbered.{Numbered}
-use Rattle.sc_data.specs.Numbering.{numbered}
-use Rattle.sc_data.specs.Clause.{width}
-use Rattle.sc_data.specs.Substitution.{Unify}
-use Rattle.sc_data.specs.JointInstance.{apart, shift}
+use Rattle.sc_term.specs.declared.Literal.{Literal}
+use Rattle.sc_term.specs.declared.Numbered.{Numbered}
+use Rattle.sc_term.specs.Numbering.{numbered}
+use Rattle.sc_term.specs.Clause.{width}
+use Rattle.sc_term.specs.Substitution.{Unify}
+use Rattle.sc_term.specs.JointInstance.{apart, shift}
 use Rattle.sc_steps.proofs.ListLaws.{some_and}
 use Rattle.sc_steps.proofs.LineLaws.{some_so}
-use Rattle.sc_rules.specs.declared.site.HyperSite.{HyperSite}
-use Rattle.sc_rules.specs.declared.site.UrSite.{UrSite}
-use Rattle.sc_rules.specs.declared.site.Pick.{Pick}
-use Rattle.sc_rules.specs.Order.{IsBefore, AreFirst}
-use Rattle.sc_rules.specs.Pairing.{ArePairs, HaveOppositeSigns, places_in, places_from}
-use Rattle.sc_rules.specs.Inference.{Inference, Resolving}
-use Rattle.sc_rules.specs.Hyperresolution.{IsUr, AreNamed, AreLiteralsWith, AreUrSites, hyper_numbers, ur_numbers, picked_numbers, unit_literals}
-use Rattle.sc_rules.proofs.OrderLaws.{at_first, later, first_before, tail_pairs}
-use Rattle.sc_rules.proofs.StepLaws.{same_some}
+use Rattle.sc_core_rules.specs.declared.site.HyperSite.{HyperSite}
+use Rattle.sc_core_rules.specs.declared.site.UrSite.{UrSite}
+use Rattle.sc_core_rules.specs.declared.site.Pick.{Pick}
+use Rattle.sc_core_rules.specs.Order.{IsBefore, AreFirst}
+use Rattle.sc_core_rules.specs.Pairing.{ArePairs, HaveOppositeSigns, places_in, places_from}
+use Rattle.sc_core_rules.specs.Inference.{Inference, Resolving}
+use Rattle.sc_core_rules.specs.Hyperresolution.{IsUr, AreNamed, AreLiteralsWith, AreUrSites, hyper_numbers, ur_numbers, picked_numbers, unit_literals}
+use Rattle.sc_core_rules.proofs.OrderLaws.{first_before, tail_pairs}
+use Rattle.sc_term.proofs.ContainsLaws.{at_first, later}
+use Rattle.sc_core_rules.proofs.StepLaws.{same_some}
 use Rattle.sc_resolve.specs.ByNumber.{AreByNumber}
 use Rattle.sc_resolve.specs.Extending.{Extends, Below}
 use Rattle.sc_resolve.proofs.Extending.{Rising, same, nothing}

@@ -1,11 +1,11 @@
 -- The literals of electrons.
 use Rattle.std.specs.Prelude.{◌≡◌, ◌≤◌, ℕ, ◌+◌, List, [], ◌∷◌, Some, Contains, AllPairs, slice_get, length}
-use Rattle.sc_data.specs.declared.Literal.{Literal}
-use Rattle.sc_data.specs.declared.Clause.{Clause}
-use Rattle.sc_data.specs.declared.Numbered.{Numbered}
-use Rattle.sc_data.specs.Clause.{width, literal_width}
-use Rattle.sc_data.specs.Numbering.{numbered}
-use Rattle.sc_rules.specs.Order.{IsBefore, AreInOrder}
+use Rattle.sc_term.specs.declared.Literal.{Literal}
+use Rattle.sc_term.specs.declared.Clause.{Clause}
+use Rattle.sc_term.specs.declared.Numbered.{Numbered}
+use Rattle.sc_term.specs.Clause.{width, literal_width}
+use Rattle.sc_term.specs.Numbering.{numbered}
+use Rattle.sc_core_rules.specs.Order.{IsBefore, AreInOrder}
 use Rattle.sc_resolve.specs.Extending.{Below}
 use Rattle.sc_hyper.specs.declared.candidates.Candidate.{Candidate}
 

@@ -1,18 +1,18 @@
 -- Choices of electrons for the negative literals of a nucleus.
 use Rattle.std.specs.Prelude.{◌≡◌, ◌≢◌, ℕ, ◌+◌, List, [], ◌∷◌, ◌++◌, Some, Contains, All, Bool, true, false, not, nat_eq, ◌||◌, ◌⊎◌, map, slice_get, length}
 use Rattle.std.specs.List.{list_any}
-use Rattle.sc_data.specs.declared.Term.{Var}
-use Rattle.sc_data.specs.declared.Literal.{Literal}
-use Rattle.sc_data.specs.declared.Numbered.{Numbered}
-use Rattle.sc_data.specs.declared.Pair.{Pair}
-use Rattle.sc_data.specs.Clause.{width}
-use Rattle.sc_data.specs.Substitution.{literal_under, Unify}
-use Rattle.sc_rules.specs.declared.site.HyperSite.{HyperSite}
-use Rattle.sc_rules.specs.declared.site.Pick.{Pick}
-use Rattle.sc_rules.specs.Pairing.{HaveOppositeSigns}
-use Rattle.sc_rules.specs.Hyperresolution.{picked_numbers}
+use Rattle.sc_term.specs.declared.Term.{Var}
+use Rattle.sc_term.specs.declared.Literal.{Literal}
+use Rattle.sc_term.specs.declared.Numbered.{Numbered}
+use Rattle.sc_term.specs.declared.Pair.{Pair}
+use Rattle.sc_term.specs.Clause.{width}
+use Rattle.sc_term.specs.Substitution.{literal_under, Unify}
+use Rattle.sc_core_rules.specs.declared.site.HyperSite.{HyperSite}
+use Rattle.sc_core_rules.specs.declared.site.Pick.{Pick}
+use Rattle.sc_core_rules.specs.Pairing.{HaveOppositeSigns}
+use Rattle.sc_core_rules.specs.Hyperresolution.{picked_numbers}
 use Rattle.sc_hyper.specs.declared.candidates.Candidate.{Candidate}
-use Rattle.sc_hyper.specs.declared.choice.Choice.{Choice}
+use Rattle.sc_hyper.specs.declared.choice.PartialSite.{PartialSite}
 use Rattle.sc_hyper.specs.Negatives.{ArePicked, IsNegative}
 
 -- the electron with its literal
@@ -39,7 +39,7 @@ low_after low [] = low
 low_after low (c ∷ cs) = low_after (low + c.wide) cs
 
 -- the choice is longer by the candidate, and still unifies
-pub record IsExtended (choice : Choice) (l : Literal) (next : Candidate) (longer : Choice) : Type 0 where
+pub record IsExtended (choice : PartialSite) (l : Literal) (next : Candidate) (longer : PartialSite) : Type 0 where
   pub picks : longer.picks ≡ choice.picks ++ pick_of next ∷ []
   pub pairs : longer.pairs ≡ choice.pairs ++ pair_with choice.low l next ∷ []
   pub low : longer.low ≡ choice.low + next.wide
@@ -50,19 +50,19 @@ abbrev pub AreOpposed : Literal → Candidate → Type 0
 AreOpposed l c = l.positive ≡ not c.literal.positive
 
 -- the choice is longer by the candidate, has the signs, and still unifies
-pub record IsNext (choice : Choice) (l : Literal) (next : Candidate) (longer : Choice) : Type 0 where
+pub record IsNext (choice : PartialSite) (l : Literal) (next : Candidate) (longer : PartialSite) : Type 0 where
   pub extended : IsExtended choice l next longer
   pub opposed : AreOpposed l next
 
 -- the candidate can't be next: the signs are the same, the pairs don't unify then, or it is the last and the given clause isn't among them
-abbrev pub IsRefused : ℕ → ℕ → Choice → Literal → Candidate → Bool → Type 0
+abbrev pub IsRefused : ℕ → ℕ → PartialSite → Literal → Candidate → Bool → Type 0
 IsRefused nucleus given choice l next last =
     (¬ Unify (choice.pairs ++ pair_with choice.low l next ∷ []))
     ⊎ (¬ AreOpposed l next)
     ⊎ ((last ≡ true) × (nat_eq next.number given ≡ false) × ((nat_eq nucleus given || list_any (has given) choice.picks) ≡ false))
 
 -- the choice is of these candidates, where the variables of the first become greater by the number
-pub record IsChosen (candidates : List Candidate) (low : ℕ) (negatives : List Literal) (cs : List Candidate) (choice : Choice) : Type 0 where
+pub record IsChosen (candidates : List Candidate) (low : ℕ) (negatives : List Literal) (cs : List Candidate) (choice : PartialSite) : Type 0 where
   pub among : All (Contains candidates) cs
   pub picks : choice.picks ≡ map pick_of cs
   pub pairs : choice.pairs ≡ pairs_of low negatives cs

@@ -1,20 +1,20 @@
 -- Conclusions of sites whose first parent is resolved with several others, one after the other.
 use Rattle.std.specs.Prelude.{◌≡◌, ◌≢◌, ◌<◌, ◌≤◌, ℕ, ◌+◌, ◌*◌, ◌-◌, List, [], ◌∷◌, ◌++◌, AllPairs, length, map, Some}
 use Rattle.std.specs.List.{AllZip}
-use Rattle.sc_data.specs.declared.Term.{Term}
-use Rattle.sc_data.specs.declared.Clause.{Clause}
-use Rattle.sc_data.specs.declared.Line.{Line}
-use Rattle.sc_data.specs.declared.Numbered.{Numbered}
-use Rattle.sc_data.specs.declared.Pair.{Pair}
-use Rattle.sc_data.specs.Numbering.{without}
-use Rattle.sc_data.specs.Clause.{IsWithinLimits}
-use Rattle.sc_data.specs.Proof.{clause_of}
-use Rattle.sc_data.specs.Substitution.{Unify}
-use Rattle.sc_data.specs.JointInstance.{apart, whole}
+use Rattle.sc_term.specs.declared.Term.{Term}
+use Rattle.sc_term.specs.declared.Clause.{Clause}
+use Rattle.sc_term.specs.declared.Line.{Line}
+use Rattle.sc_term.specs.declared.Numbered.{Numbered}
+use Rattle.sc_term.specs.declared.Pair.{Pair}
+use Rattle.sc_term.specs.Numbering.{without}
+use Rattle.sc_term.specs.Clause.{IsWithinLimits}
+use Rattle.sc_term.specs.Proof.{clause_of}
+use Rattle.sc_term.specs.Substitution.{Unify}
+use Rattle.sc_term.specs.JointInstance.{apart, whole}
 use Rattle.sc_unify.specs.Joint.{AreTermsOf}
-use Rattle.sc_rules.specs.Derivation.{AddsParts, EndsCanonical}
-use Rattle.sc_rules.specs.Inference.{Inference, Resolving, Ends}
-use Rattle.sc_rules.specs.Pairing.{ArePairs, HaveOppositeSigns, places_in, places_from}
+use Rattle.sc_core_rules.specs.Derivation.{AddsParts, EndsCanonical}
+use Rattle.sc_core_rules.specs.Inference.{Inference, Resolving, Ends}
+use Rattle.sc_core_rules.specs.Pairing.{ArePairs, HaveOppositeSigns, places_in, places_from}
 use Rattle.sc_resolve.specs.Made.{IsOpposed}
 use Rattle.sc_resolve.specs.Parts.{AreJoint}
 

@@ -1,9 +1,9 @@
 -- The literals of a nucleus that are resolved on.
 use Rattle.std.specs.Prelude.{◌≡◌, ◌≢◌, ℕ, ◌+◌, List, Some, map, false, slice_get}
-use Rattle.sc_data.specs.declared.Literal.{Literal}
-use Rattle.sc_data.specs.declared.Clause.{Clause}
-use Rattle.sc_data.specs.Numbering.{numbered}
-use Rattle.sc_rules.specs.Hyperresolution.{AreLiteralsWith}
+use Rattle.sc_term.specs.declared.Literal.{Literal}
+use Rattle.sc_term.specs.declared.Clause.{Clause}
+use Rattle.sc_term.specs.Numbering.{numbered}
+use Rattle.sc_core_rules.specs.Hyperresolution.{AreLiteralsWith}
 
 -- the literals of these numbers
 abbrev pub AreLiteralsAt : Clause → List ℕ → List Literal → Type 0

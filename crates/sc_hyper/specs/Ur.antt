@@ -1,11 +1,11 @@
 -- The sites of UR-resolution, loop by loop.
 use Rattle.std.specs.Prelude.{◌≡◌, ◌≤◌, ℕ, ◌+◌, List, [], Some, slice_get, length}
-use Rattle.sc_data.specs.declared.Literal.{Literal}
-use Rattle.sc_data.specs.declared.Numbered.{Numbered}
-use Rattle.sc_data.specs.Clause.{width}
-use Rattle.sc_rules.specs.declared.site.HyperSite.{HyperSite}
-use Rattle.sc_rules.specs.declared.site.UrSite.{UrSite}
-use Rattle.sc_rules.specs.Hyperresolution.{picked_numbers}
+use Rattle.sc_term.specs.declared.Literal.{Literal}
+use Rattle.sc_term.specs.declared.Numbered.{Numbered}
+use Rattle.sc_term.specs.Clause.{width}
+use Rattle.sc_core_rules.specs.declared.site.HyperSite.{HyperSite}
+use Rattle.sc_core_rules.specs.declared.site.UrSite.{UrSite}
+use Rattle.sc_core_rules.specs.Hyperresolution.{picked_numbers}
 use Rattle.sc_resolve.specs.Extending.{Below}
 use Rattle.sc_hyper.specs.declared.candidates.Candidate.{Candidate}
 use Rattle.sc_hyper.specs.Negatives.{ArePicked, IsOther}

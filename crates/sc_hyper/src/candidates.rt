@@ -2,15 +2,13 @@
 
 ghost use Rattle.std.specs.Prelude.{◌≡◌, ◌<◌, ◌≤◌, ◌+◌, nat_eq, length, IfOk, OnOk, All, AllPairs};
 ghost use Rattle.std.specs.List.{list_all};
-ghost use Rattle.sc_rules.specs.Hyperresolution.{IsPositive};
+ghost use Rattle.sc_core_rules.specs.Hyperresolution.{IsPositive};
 ghost use Rattle.sc_resolve.specs.ByNumber.{seen};
 ghost use Rattle.sc_resolve.specs.Extending.{Extends, Below};
 ghost use Rattle.sc_resolve.specs.Kept.{IsKept};
 ghost use Rattle.sc_hyper.specs.Candidates.{candidate_numbers, IsOfElectron, IsSingle, AreCandidates};
 
-use sc_data::{Clause, Literal, Numbered};
-use sc_term::{Mem, copy_literal, width};
-use sqlite_items::Items;
+use sc_term::{Clause, List, Literal, Mem, Numbered, copy_literal, width};
 use std::alloc::Global;
 
 /// Literal `lit` of electron `number`, whose clause is so wide.
@@ -40,7 +38,7 @@ fn is_single(c: &Clause) -> bool
 }
 
 /// Adds the literals of the electron.
-fn add_of_electron(alloc: Global, electron: &Numbered, found: &mut Items<Candidate>) -> Mem<()>
+fn add_of_electron(alloc: Global, electron: &Numbered, found: &mut List<Candidate>) -> Mem<()>
     requires kept { IsKept electron.now.clause }
     requires few { length electron.now.clause.literals ≤ 10000 }
     ensures { OnOk result (Extends candidate_numbers (Below (IsOfElectron electron.now) (length electron.now.clause.literals)) (length found.new + 1) found.old found.new) }
@@ -60,12 +58,12 @@ fn add_of_electron(alloc: Global, electron: &Numbered, found: &mut Items<Candida
 }
 
 /// The literals of all positive clauses, in order.
-pub fn candidates(alloc: Global, usable: &[&Numbered]) -> Mem<Items<Candidate>>
+pub fn candidates(alloc: Global, usable: &[&Numbered]) -> Mem<List<Candidate>>
     requires rising { AllPairs (λ p q. p.number < q.number) (seen usable.now) }
     requires kept { All (λ p. IsKept p.clause) (seen usable.now) }
     ensures { IfOk result (λ found. AreCandidates IsPositive (seen usable.now) found) }
 {
-    let mut found = Items::new(alloc);
+    let mut found = List::new(alloc);
     for electron in usable {
         if is_positive(&electron.clause) {
             add_of_electron(alloc, electron, &mut found)?;
@@ -75,12 +73,12 @@ pub fn candidates(alloc: Global, usable: &[&Numbered]) -> Mem<Items<Candidate>>
 }
 
 /// The literals of all unit clauses, in order.
-pub fn units(alloc: Global, usable: &[&Numbered]) -> Mem<Items<Candidate>>
+pub fn units(alloc: Global, usable: &[&Numbered]) -> Mem<List<Candidate>>
     requires rising { AllPairs (λ p q. p.number < q.number) (seen usable.now) }
     requires kept { All (λ p. IsKept p.clause) (seen usable.now) }
     ensures { IfOk result (λ found. AreCandidates IsSingle (seen usable.now) found) }
 {
-    let mut found = Items::new(alloc);
+    let mut found = List::new(alloc);
     for electron in usable {
         if is_single(&electron.clause) {
             add_of_electron(alloc, electron, &mut found)?;

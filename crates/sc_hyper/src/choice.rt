@@ -2,25 +2,23 @@
 
 ghost use Rattle.std.specs.Prelude.{◌≡◌, ◌≤◌, ◌<◌, ◌+◌, ◌++◌, ◌∷◌, ◌^◌, ◌↔◌, ◌||◌, nat_eq, [], IfOk, IsTrue, MatchOption};
 ghost use Rattle.std.specs.List.{list_any};
-ghost use Rattle.sc_data.specs.declared.Term.{Var as AVar};
-ghost use Rattle.sc_data.specs.Clause.{literal_width};
-ghost use Rattle.sc_data.specs.Substitution.{literal_under, Unify};
+ghost use Rattle.sc_term.specs.declared.Term.{Var as AVar};
+ghost use Rattle.sc_term.specs.Clause.{literal_width};
+ghost use Rattle.sc_term.specs.Substitution.{literal_under, Unify};
 ghost use Rattle.sc_hyper.specs.Choosing.{has, pair_with, IsExtended};
 
 use crate::candidates::Candidate;
-use sc_data::{Clause, Literal, Pair};
-use sc_rules::Pick;
-use sc_term::{Mem, copy_literal, shift};
+use sc_core_rules::Pick;
+use sc_term::{Clause, List, Literal, Mem, Pair, copy_literal, shift};
 use sc_unify::unify_all;
-use sqlite_items::Items;
 use std::alloc::Global;
 
-/// Electrons with their literals, the pairs that have to become equal, and the number of variables up to here: those of
-/// the next electron become greater by it.
+/// A site in the making: electrons with their literals, the pairs that have to become equal, and the number of variables
+/// up to here: those of the next electron become greater by it.
 #[derive(Drop)]
-pub struct Choice {
-    pub picks: Items<Pick>,
-    pub pairs: Items<Pair>,
+pub struct PartialSite {
+    pub picks: List<Pick>,
+    pub pairs: List<Pair>,
     pub low: u32,
 }
 
@@ -29,17 +27,17 @@ fn shifted(alloc: Global, l: &Literal, by: u32) -> Mem<Literal>
     requires { literal_width l.now + by < 2 ^ 31 }
     ensures { IfOk result (λ r. r ≡ literal_under (λ n. AVar (n + by)) l.now) }
 {
-    let mut literals = Items::new(alloc);
+    let mut literals = List::new(alloc);
     literals.push(copy_literal(alloc, l)?)?;
     let mut moved = shift(alloc, &Clause { literals }, by)?;
     Ok(moved.literals.remove(0))
 }
 
 /// The pairs again.
-fn copy_pairs(alloc: Global, pairs: &[Pair]) -> Mem<Items<Pair>>
+fn copy_pairs(alloc: Global, pairs: &[Pair]) -> Mem<List<Pair>>
     ensures { IfOk result (λ r. r ≡ pairs.now) }
 {
-    let mut copies = Items::new(alloc);
+    let mut copies = List::new(alloc);
     for pair in pairs {
         copies.push(Pair {
             left: copy_literal(alloc, &pair.left)?,
@@ -50,10 +48,10 @@ fn copy_pairs(alloc: Global, pairs: &[Pair]) -> Mem<Items<Pair>>
 }
 
 /// The electrons with their literals again.
-pub fn copy_picks(alloc: Global, picks: &[Pick]) -> Mem<Items<Pick>>
+pub fn copy_picks(alloc: Global, picks: &[Pick]) -> Mem<List<Pick>>
     ensures { IfOk result (λ r. r ≡ picks.now) }
 {
-    let mut copies = Items::new(alloc);
+    let mut copies = List::new(alloc);
     for pick in picks {
         copies.push(Pick {
             number: pick.number,
@@ -83,7 +81,7 @@ pub fn has_given(nucleus: u32, given: u32, picks: &[Pick]) -> bool
 }
 
 /// The pairs and one more: the literal against the candidate's, renamed apart.
-fn with_pair(alloc: Global, choice: &Choice, l: &Literal, next: &Candidate) -> Mem<Items<Pair>>
+fn with_pair(alloc: Global, choice: &PartialSite, l: &Literal, next: &Candidate) -> Mem<List<Pair>>
     requires low { choice.now.low < 2 ^ 30 }
     requires narrow { literal_width next.now.literal ≤ 10000 }
     ensures { IfOk result (λ r. r ≡ choice.now.pairs ++ pair_with choice.now.low l.now next.now ∷ []) }
@@ -96,7 +94,7 @@ fn with_pair(alloc: Global, choice: &Choice, l: &Literal, next: &Candidate) -> M
 }
 
 /// Whether the pairs unify at once.
-fn do_unify(alloc: Global, pairs: &Items<Pair>) -> Mem<bool>
+fn do_unify(alloc: Global, pairs: &List<Pair>) -> Mem<bool>
     ensures { IfOk result (λ b. IsTrue b ↔ Unify pairs.now) }
 {
     Ok(unify_all(alloc, pairs)?.is_some())
@@ -105,10 +103,10 @@ fn do_unify(alloc: Global, pairs: &Items<Pair>) -> Mem<bool>
 /// The choice with the candidate for the next literal, or None where the pairs don't unify then.
 pub fn extended(
     alloc: Global,
-    choice: &Choice,
+    choice: &PartialSite,
     l: &Literal,
     next: &Candidate,
-) -> Mem<Option<Choice>>
+) -> Mem<Option<PartialSite>>
     requires low { choice.now.low < 2 ^ 30 }
     requires narrow { literal_width next.now.literal ≤ 10000 }
     requires wide { next.now.wide ≤ 10000 }
@@ -124,5 +122,5 @@ pub fn extended(
         lit: next.lit,
     })?;
     let low = choice.low + next.wide;
-    Ok(Some(Choice { picks, pairs, low }))
+    Ok(Some(PartialSite { picks, pairs, low }))
 }

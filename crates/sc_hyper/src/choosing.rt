@@ -1,20 +1,18 @@
 //! Choices of electrons, literal by literal.
 
-ghost use Rattle.std.specs.Prelude.{◌≡◌, ◌≤◌, ◌<◌, ◌+◌, ◌*◌, ◌^◌, ℕ, List, length, IfOk, OnOk, All, MatchOption, not, if◌then◌else◌};
-ghost use Rattle.sc_data.specs.Clause.{literal_width};
-ghost use Rattle.sc_data.specs.Substitution.{Unify};
-ghost use Rattle.sc_rules.specs.Hyperresolution.{hyper_numbers};
+ghost use Rattle.std.specs.Prelude.{◌≡◌, ◌≤◌, ◌<◌, ◌+◌, ◌*◌, ◌^◌, ℕ, List as AList, length, IfOk, OnOk, All, MatchOption, not, if◌then◌else◌};
+ghost use Rattle.sc_term.specs.Clause.{literal_width};
+ghost use Rattle.sc_term.specs.Substitution.{Unify};
+ghost use Rattle.sc_core_rules.specs.Hyperresolution.{hyper_numbers};
 ghost use Rattle.sc_resolve.specs.Extending.{Extends};
 ghost use Rattle.sc_hyper.specs.declared.candidates.Candidate.{Candidate as ACandidate};
 ghost use Rattle.sc_hyper.specs.Candidates.{IsNarrow, DoRise};
 ghost use Rattle.sc_hyper.specs.Choosing.{IsChosen, IsNext, IsRefused, Completes};
 
 use crate::candidates::Candidate;
-use crate::choice::{Choice, copy_picks, extended, has_given};
-use sc_data::Literal;
-use sc_rules::HyperSite;
-use sc_term::Mem;
-use sqlite_items::Items;
+use crate::choice::{PartialSite, copy_picks, extended, has_given};
+use sc_core_rules::HyperSite;
+use sc_term::{List, Literal, Mem};
 use std::alloc::Global;
 
 /// Adds the site of a whole choice, where it has the given clause and there is room.
@@ -24,13 +22,13 @@ fn add_site(
     given: u32,
     negatives: &[Literal],
     candidates: &[Candidate],
-    choice: &Choice,
+    choice: &PartialSite,
     limit: usize,
-    sites: &mut Items<HyperSite>,
+    sites: &mut List<HyperSite>,
 ) -> Mem<()>
     requires unify { Unify choice.now.pairs }
     requires many { length choice.now.picks ≡ length negatives.now }
-    ensures { (low : ℕ) (cs : List ACandidate) → IsChosen candidates.now low negatives.now cs choice.now
+    ensures { (low : ℕ) (cs : AList ACandidate) → IsChosen candidates.now low negatives.now cs choice.now
         → OnOk result (Extends hyper_numbers (Completes nucleus given candidates.now low negatives.now cs) limit sites.old sites.new) }
 {
     if sites.len() >= limit {
@@ -58,11 +56,11 @@ fn next_choice(
     alloc: Global,
     nucleus: u32,
     given: u32,
-    choice: &Choice,
+    choice: &PartialSite,
     l: &Literal,
     next: &Candidate,
     last: bool,
-) -> Mem<Option<Choice>>
+) -> Mem<Option<PartialSite>>
     requires low { choice.now.low < 2 ^ 30 }
     requires narrow { literal_width next.now.literal ≤ 10000 }
     requires wide { next.now.wide ≤ 10000 }
@@ -87,9 +85,9 @@ pub fn choose(
     given: u32,
     negatives: &[Literal],
     candidates: &[Candidate],
-    choice: &Choice,
+    choice: &PartialSite,
     limit: usize,
-    sites: &mut Items<HyperSite>,
+    sites: &mut List<HyperSite>,
 ) -> Mem<()>
     requires unify { Unify choice.now.pairs }
     requires few { length negatives.now ≤ 10000 }
@@ -97,7 +95,7 @@ pub fn choose(
     requires low { choice.now.low ≤ 10000 * (length choice.now.picks + 1) }
     requires narrow { All IsNarrow candidates.now }
     requires rising { DoRise candidates.now }
-    ensures { (low : ℕ) (cs : List ACandidate) → IsChosen candidates.now low negatives.now cs choice.now
+    ensures { (low : ℕ) (cs : AList ACandidate) → IsChosen candidates.now low negatives.now cs choice.now
         → OnOk result (Extends hyper_numbers (Completes nucleus given candidates.now low negatives.now cs) limit sites.old sites.new) }
 {
     let depth = choice.picks.len();

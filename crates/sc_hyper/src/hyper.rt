@@ -1,7 +1,7 @@
 //! The sites of hyperresolution.
 
 ghost use Rattle.std.specs.Prelude.{◌≡◌, ◌≢◌, ◌<◌, ◌≤◌, [], length, IfOk, OnOk, All, AllPairs};
-ghost use Rattle.sc_rules.specs.Hyperresolution.{AreHyperSites, hyper_numbers};
+ghost use Rattle.sc_core_rules.specs.Hyperresolution.{AreHyperSites, hyper_numbers};
 ghost use Rattle.sc_resolve.specs.ByNumber.{seen};
 ghost use Rattle.sc_resolve.specs.Kept.{IsKept};
 ghost use Rattle.sc_resolve.specs.Extending.{Extends, Below};
@@ -9,14 +9,12 @@ ghost use Rattle.sc_hyper.specs.Candidates.{IsNarrow, DoRise};
 ghost use Rattle.sc_hyper.specs.Choosing.{IsWithNucleus, IsWithUsable};
 
 use crate::candidates::{Candidate, candidates};
-use crate::choice::Choice;
+use crate::choice::PartialSite;
 use crate::choosing::choose;
 use crate::negatives::negative_literals;
-use sc_data::Numbered;
+use sc_core_rules::HyperSite;
 use sc_resolve::by_number;
-use sc_rules::HyperSite;
-use sc_term::{Mem, width};
-use sqlite_items::Items;
+use sc_term::{List, Mem, Numbered, width};
 use std::alloc::Global;
 
 /// Adds the sites with the nucleus, while there is room.
@@ -26,7 +24,7 @@ fn add_with_nucleus(
     given: u32,
     candidates: &[Candidate],
     limit: usize,
-    sites: &mut Items<HyperSite>,
+    sites: &mut List<HyperSite>,
 ) -> Mem<()>
     requires kept { IsKept nucleus.now.clause }
     requires narrow { All IsNarrow candidates.now }
@@ -37,9 +35,9 @@ fn add_with_nucleus(
     if found.literals.is_empty() {
         return Ok(());
     }
-    let choice = Choice {
-        picks: Items::new(alloc),
-        pairs: Items::new(alloc),
+    let choice = PartialSite {
+        picks: List::new(alloc),
+        pairs: List::new(alloc),
         low: width(&nucleus.clause),
     };
     choose(
@@ -62,14 +60,14 @@ fn sites_with(
     given: u32,
     candidates: &[Candidate],
     limit: usize,
-) -> Mem<Items<HyperSite>>
+) -> Mem<List<HyperSite>>
     requires numbers { AllPairs (λ p q. p.number < q.number) (seen usable.now) }
     requires kept { All (λ p. IsKept p.clause) (seen usable.now) }
     requires narrow { All IsNarrow candidates.now }
     requires rising { DoRise candidates.now }
     ensures { IfOk result (λ sites. Extends hyper_numbers (Below (IsWithUsable given candidates.now (seen usable.now)) (length (seen usable.now))) limit [] sites) }
 {
-    let mut sites = Items::new(alloc);
+    let mut sites = List::new(alloc);
     for nucleus in usable {
         if sites.len() >= limit {
             return Ok(sites);
@@ -85,7 +83,7 @@ fn sites_in_order(
     given: &Numbered,
     usable: &[&Numbered],
     limit: u32,
-) -> Mem<Items<HyperSite>>
+) -> Mem<List<HyperSite>>
     requires rising { AllPairs (λ p q. p.number < q.number) (seen usable.now) }
     requires kept { All (λ p. IsKept p.clause) (seen usable.now) }
     ensures { IfOk result (λ sites. AreHyperSites given.now (seen usable.now) limit sites) }
@@ -106,9 +104,9 @@ fn sites_in_order(
 pub fn hyper_sites(
     alloc: Global,
     given: &Numbered,
-    usable: &Items<Numbered>,
+    usable: &List<Numbered>,
     limit: u32,
-) -> Mem<Items<HyperSite>>
+) -> Mem<List<HyperSite>>
     requires differ { AllPairs (λ p q. p.number ≢ q.number) usable.now }
     requires kept { All (λ p. IsKept p.clause) usable.now }
     ensures { IfOk result (λ sites. AreHyperSites given.now usable.now limit sites) }

@@ -1,6 +1,6 @@
 //! Hyperresolution and UR-resolution: the sites of a given clause, and the conclusions of sites with their derivations.
 //!
-//! It stands on `sc_rules`, whose definitions of sites, inferences and conclusions (`Hyperresolution`, `Inference`,
+//! It stands on `sc_core_rules`, whose definitions of sites, inferences and conclusions (`Hyperresolution`, `Inference`,
 //! `Derivation`) the contracts cite, on `sc_unify` for unifiers and joint instances, on `sc_term` and `sc_steps`, and on
 //! `sc_resolve` for how a list grows by the first things of which something holds, and how a derivation grows line by
 //! line.
@@ -29,6 +29,3 @@ mod ur;
 pub use hyper::hyper_sites;
 pub use makers::{make_hyper, make_ur};
 pub use ur::ur_sites;
-
-#[cfg(test)]
-mod tests;

@@ -1,12 +1,10 @@
 //! Usable clauses by their numbers.
 
-ghost use Rattle.std.specs.Prelude.{◌≡◌, ◌≢◌, ◌∷◌, Some, Contains, List, IfOk, All, AllPairs, MatchOption};
-ghost use Rattle.sc_data.specs.declared.Numbered.{Numbered as ANumbered};
-ghost use Rattle.sc_rules.specs.Hyperresolution.{AreNamed};
+ghost use Rattle.std.specs.Prelude.{◌≡◌, ◌≢◌, ◌∷◌, Some, Contains, List as AList, IfOk, All, AllPairs, MatchOption};
+ghost use Rattle.sc_term.specs.declared.Numbered.{Numbered as ANumbered};
+ghost use Rattle.sc_core_rules.specs.Hyperresolution.{AreNamed};
 
-use sc_data::Numbered;
-use sc_term::{Mem, copy};
-use sqlite_items::Items;
+use sc_term::{List, Mem, Numbered, copy};
 use std::alloc::Global;
 
 /// The clause of this number.
@@ -31,11 +29,11 @@ fn copy_numbered(alloc: Global, p: &Numbered) -> Mem<Numbered>
 }
 
 /// The clauses of these numbers, in order, or None where one isn't there.
-fn named(alloc: Global, usable: &[Numbered], numbers: &[u32]) -> Mem<Option<Items<Numbered>>>
+fn named(alloc: Global, usable: &[Numbered], numbers: &[u32]) -> Mem<Option<List<Numbered>>>
     requires { AllPairs (λ p q. p.number ≢ q.number) usable.now }
-    ensures { IfOk result (λ found. (ps : List ANumbered) → AreNamed usable.now numbers.now ps → found ≡ Some ps) }
+    ensures { IfOk result (λ found. (ps : AList ANumbered) → AreNamed usable.now numbers.now ps → found ≡ Some ps) }
 {
-    let mut found = Items::new(alloc);
+    let mut found = List::new(alloc);
     for n in numbers {
         match find(usable, *n) {
             Some(p) => found.push(copy_numbered(alloc, p)?)?,
@@ -50,12 +48,12 @@ pub fn parents_of(
     alloc: Global,
     usable: &[Numbered],
     nucleus: u32,
-    others: Items<u32>,
-) -> Mem<Option<Items<Numbered>>>
+    others: List<u32>,
+) -> Mem<Option<List<Numbered>>>
     requires { AllPairs (λ p q. p.number ≢ q.number) usable.now }
-    ensures { IfOk result (λ found. (ps : List ANumbered) → AreNamed usable.now (nucleus ∷ others) ps → found ≡ Some ps) }
+    ensures { IfOk result (λ found. (ps : AList ANumbered) → AreNamed usable.now (nucleus ∷ others) ps → found ≡ Some ps) }
 {
-    let mut numbers = Items::new(alloc);
+    let mut numbers = List::new(alloc);
     numbers.push(nucleus)?;
     numbers.append(others)?;
     named(alloc, usable, numbers.as_slice())

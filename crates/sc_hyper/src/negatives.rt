@@ -3,16 +3,14 @@
 ghost use Rattle.std.specs.Prelude.{◌≡◌, ◌≤◌, length, IfOk};
 ghost use Rattle.sc_hyper.specs.Negatives.{ArePicked, IsNegative, IsOther};
 
-use sc_data::{Clause, Literal};
-use sc_term::{Mem, copy_literal};
-use sqlite_items::Items;
+use sc_term::{Clause, List, Literal, Mem, copy_literal};
 use std::alloc::Global;
 
 /// Literals of a clause with their numbers, in order.
 #[derive(Drop)]
 pub struct PickedLiterals {
-    pub numbers: Items<u32>,
-    pub literals: Items<Literal>,
+    pub numbers: List<u32>,
+    pub literals: List<Literal>,
 }
 
 /// The negative literals of the clause.
@@ -22,8 +20,8 @@ pub fn negative_literals(alloc: Global, c: &Clause) -> Mem<PickedLiterals>
     ensures few { IfOk result (λ found. length found.literals ≤ length c.now.literals) }
 {
     let all = c.literals.as_slice();
-    let mut numbers = Items::new(alloc);
-    let mut literals = Items::new(alloc);
+    let mut numbers = List::new(alloc);
+    let mut literals = List::new(alloc);
     for at in 0..all.len() {
         if !all[at].positive {
             numbers.push(at as u32 + 1)?;
@@ -40,8 +38,8 @@ pub fn other_literals(alloc: Global, c: &Clause, target: u32) -> Mem<PickedLiter
     ensures few { IfOk result (λ found. length found.literals ≤ length c.now.literals) }
 {
     let all = c.literals.as_slice();
-    let mut numbers = Items::new(alloc);
-    let mut literals = Items::new(alloc);
+    let mut numbers = List::new(alloc);
+    let mut literals = List::new(alloc);
     for at in 0..all.len() {
         let number = at as u32 + 1;
         let l = &all[at];

@@ -1,33 +1,31 @@
 //! Literals of several parents, set against each other, and what makes them equal.
 
-ghost use Rattle.std.specs.Prelude.{◌≡◌, ◌<◌, ◌≤◌, ◌^◌, ◌+◌, Some, List, length, map, All, IfOk, MatchOption};
+ghost use Rattle.std.specs.Prelude.{◌≡◌, ◌<◌, ◌≤◌, ◌^◌, ◌+◌, Some, List as AList, length, map, All, IfOk, MatchOption};
 ghost use Rattle.std.specs.Option.{option_copied};
-ghost use Rattle.sc_data.specs.declared.Clause.{Clause as AClause};
-ghost use Rattle.sc_data.specs.declared.Pair.{Pair as APair};
-ghost use Rattle.sc_data.specs.Clause.{width};
-ghost use Rattle.sc_data.specs.Term.{largest};
-ghost use Rattle.sc_data.specs.Substitution.{Unify};
-ghost use Rattle.sc_data.specs.JointInstance.{apart};
-ghost use Rattle.sc_rules.specs.Pairing.{literal_at};
+ghost use Rattle.sc_term.specs.declared.Clause.{Clause as AClause};
+ghost use Rattle.sc_term.specs.declared.Pair.{Pair as APair};
+ghost use Rattle.sc_term.specs.Clause.{width};
+ghost use Rattle.sc_term.specs.Term.{largest};
+ghost use Rattle.sc_term.specs.Substitution.{Unify};
+ghost use Rattle.sc_term.specs.JointInstance.{apart};
+ghost use Rattle.sc_core_rules.specs.Pairing.{literal_at};
 ghost use Rattle.sc_resolve.specs.Kept.{IsKept};
 ghost use Rattle.sc_resolve.specs.Parts.{IsOutside};
 ghost use Rattle.sc_hyper.specs.Making.{clauses_of, ArePaired, AreTermsOfAll};
 
-use sc_data::{Clause, Literal, Numbered, Pair, Term};
 use sc_resolve::literal;
-use sc_term::{Mem, copy_literal, shift, width};
+use sc_term::{Clause, List, Literal, Mem, Numbered, Pair, Term, copy_literal, shift, width};
 use sc_unify::{joint_terms, unify_all};
-use sqlite_items::Items;
 use std::alloc::Global;
 
 /// The clauses with the variables of each above those of the clauses before it.
-pub fn apart(alloc: Global, parents: &[Numbered]) -> Mem<Items<Clause>>
+pub fn apart(alloc: Global, parents: &[Numbered]) -> Mem<List<Clause>>
     requires few { length parents.now ≤ 10001 }
     requires kept { All (λ p. IsKept p.clause) parents.now }
     ensures { IfOk result (λ r. r ≡ apart (clauses_of parents.now)) }
 {
     let mut low: u32 = 0;
-    let mut moved = Items::new(alloc);
+    let mut moved = List::new(alloc);
     for parent in parents {
         moved.push(shift(alloc, &parent.clause, low)?)?;
         low += width(&parent.clause);
@@ -67,15 +65,10 @@ fn pair(alloc: Global, parents: &[Clause], lit: u32, at: usize, other: u32) -> M
 }
 
 /// The pairs of these literals of the first parent with those of the others, or None where one isn't there.
-fn pairs(
-    alloc: Global,
-    parents: &[Clause],
-    lits: &[u32],
-    others: &[u32],
-) -> Mem<Option<Items<Pair>>>
-    ensures { IfOk result (λ found. (ps : List APair) → ArePaired parents.now lits.now others.now ps → found ≡ Some ps) }
+fn pairs(alloc: Global, parents: &[Clause], lits: &[u32], others: &[u32]) -> Mem<Option<List<Pair>>>
+    ensures { IfOk result (λ found. (ps : AList APair) → ArePaired parents.now lits.now others.now ps → found ≡ Some ps) }
 {
-    let mut found = Items::new(alloc);
+    let mut found = List::new(alloc);
     for at in 0..lits.len() {
         if at >= others.len() {
             return Ok(None);
@@ -92,12 +85,12 @@ fn pairs(
 /// which the pairs become equal, or None where that is outside the limits.
 pub fn terms_of_all(
     alloc: Global,
-    parents: &Items<Clause>,
+    parents: &List<Clause>,
     lits: &[u32],
     others: &[u32],
-) -> Mem<Option<Items<Items<Term>>>>
+) -> Mem<Option<List<List<Term>>>>
     requires narrow { largest (map width parents.now) < 2 ^ 31 }
-    ensures { (own : List AClause) (ps : List APair) → parents.now ≡ apart own → ArePaired parents.now lits.now others.now ps → Unify ps
+    ensures { (own : AList AClause) (ps : AList APair) → parents.now ≡ apart own → ArePaired parents.now lits.now others.now ps → Unify ps
         → IfOk result (λ found. MatchOption found (IsOutside own ps) (λ told. AreTermsOfAll own ps told)) }
 {
     let pairs = match pairs(alloc, parents.as_slice(), lits, others)? {

@@ -1,16 +1,14 @@
 //! The lines of the parts of several parents.
 
-ghost use Rattle.std.specs.Prelude.{◌≡◌, ◌<◌, ◌≤◌, ◌^◌, List, length, All, IfOk, IsSomeAnd, MatchOption};
-ghost use Rattle.sc_data.specs.declared.Clause.{Clause as AClause};
-ghost use Rattle.sc_data.specs.Clause.{width, instance, IsWithinLimits};
+ghost use Rattle.std.specs.Prelude.{◌≡◌, ◌<◌, ◌≤◌, ◌^◌, List as AList, length, All, IfOk, IsSomeAnd, MatchOption};
+ghost use Rattle.sc_term.specs.declared.Clause.{Clause as AClause};
+ghost use Rattle.sc_term.specs.Clause.{width, instance, IsWithinLimits};
 ghost use Rattle.sc_resolve.specs.Kept.{IsKept};
 ghost use Rattle.sc_resolve.specs.Lines.{IsKnown, HasPart};
 ghost use Rattle.sc_hyper.specs.Making.{AreOneByNumber, AreTold, IsOpened};
 
-use sc_data::{Clause, Line, Numbered, Term};
 use sc_resolve::{add_part, part_of};
-use sc_term::{Mem, copy_terms};
-use sqlite_items::Items;
+use sc_term::{Clause, Line, List, Mem, Numbered, Term, copy_terms};
 use std::alloc::Global;
 
 /// A part of a parent, and the line that has it.
@@ -23,9 +21,9 @@ pub struct AddedPart {
 /// Adds the lines of the part that the terms make of the parent, or answers None where that is outside the limits.
 fn added_part(
     alloc: Global,
-    lines: &mut Items<Line>,
+    lines: &mut List<Line>,
     parent: &Numbered,
-    terms: &Items<Term>,
+    terms: &List<Term>,
 ) -> Mem<Option<AddedPart>>
     requires few { length lines.old ≤ 30000 }
     requires known { IsKnown lines.old parent.now }
@@ -49,23 +47,23 @@ fn added_part(
 /// The first lines of a derivation, with the parts of the parents and the line of each.
 #[derive(Drop)]
 pub struct Opening {
-    pub lines: Items<Line>,
-    pub part_lines: Items<u32>,
-    pub parts: Items<Clause>,
+    pub lines: List<Line>,
+    pub part_lines: List<u32>,
+    pub parts: List<Clause>,
 }
 
 /// The lines of the parts that the terms make of the parents.
-pub fn opening_of(alloc: Global, parents: &[Numbered], told: &[Items<Term>]) -> Mem<Option<Opening>>
+pub fn opening_of(alloc: Global, parents: &[Numbered], told: &[List<Term>]) -> Mem<Option<Opening>>
     requires few { length parents.now ≤ 10001 }
     requires kept { All (λ p. IsKept p.clause) parents.now }
     requires one { AreOneByNumber parents.now }
-    requires told { (parts : List AClause) × AreTold parents.now told.now parts }
-    ensures { (parts : List AClause) → AreTold parents.now told.now parts
+    requires told { (parts : AList AClause) × AreTold parents.now told.now parts }
+    ensures { (parts : AList AClause) → AreTold parents.now told.now parts
         → IfOk result (λ found. IsSomeAnd found (λ o. (o.parts ≡ parts) × IsOpened parents.now parts o.lines o.part_lines)) }
 {
-    let mut lines = Items::new(alloc);
-    let mut part_lines = Items::new(alloc);
-    let mut parts = Items::new(alloc);
+    let mut lines = List::new(alloc);
+    let mut part_lines = List::new(alloc);
+    let mut parts = List::new(alloc);
     for at in 0..parents.len() {
         let added = match added_part(alloc, &mut lines, &parents[at], &told[at])? {
             Some(added) => added,

@@ -2,11 +2,11 @@
 
 ghost use Rattle.std.specs.Prelude.{◌≡◌, ◌≢◌, ◌<◌, ◌≤◌, ◌^◌, [], length, All, IfOk};
 ghost use Rattle.std.specs.List.{AllZip};
-ghost use Rattle.sc_data.specs.declared.Step.TheVariants.{Resolve};
-ghost use Rattle.sc_data.specs.Clause.{IsWithinLimits};
-ghost use Rattle.sc_data.specs.JointInstance.{whole};
-ghost use Rattle.sc_data.specs.Proof.{clause_of};
-ghost use Rattle.sc_rules.specs.Inference.{Inference};
+ghost use Rattle.sc_term.specs.declared.Step.TheVariants.{Resolve};
+ghost use Rattle.sc_term.specs.Clause.{IsWithinLimits};
+ghost use Rattle.sc_term.specs.JointInstance.{whole};
+ghost use Rattle.sc_term.specs.Proof.{clause_of};
+ghost use Rattle.sc_core_rules.specs.Inference.{Inference};
 ghost use Rattle.sc_resolve.specs.Kept.{IsKept};
 ghost use Rattle.sc_resolve.specs.Lines.{IsAdded};
 ghost use Rattle.sc_resolve.specs.Made.{Makes, IsOpposed};
@@ -14,11 +14,9 @@ ghost use Rattle.sc_hyper.specs.Making.{AreOneByNumber, IsResolution, resolvent,
 
 use crate::pairing::{apart, terms_of_all};
 use crate::parts::{Opening, opening_of};
-use sc_data::{Clause, Line, Numbered, Step};
 use sc_resolve::{add_line, finish};
 use sc_steps::Made;
-use sc_term::{Mem, copy};
-use sqlite_items::Items;
+use sc_term::{Clause, Line, List, Mem, Numbered, Step, copy};
 use std::alloc::Global;
 
 /// The clause without literal a, and then the part without literal b.
@@ -37,7 +35,7 @@ fn resolvent(alloc: Global, c: Clause, a: u32, part: &Clause, b: u32) -> Mem<Cla
 /// Adds the line of the clause, which is resolved from these.
 fn add_resolvent(
     alloc: Global,
-    lines: &mut Items<Line>,
+    lines: &mut List<Line>,
     left: u32,
     left_lit: u32,
     right: u32,

@@ -1,8 +1,8 @@
 //! The sites of UR-resolution.
 
 ghost use Rattle.std.specs.Prelude.{◌≡◌, ◌≢◌, ◌<◌, ◌≤◌, ◌++◌, map, [], length, IfOk, OnOk, All, AllPairs};
-ghost use Rattle.sc_rules.specs.declared.site.Pick.{Pick as APick};
-ghost use Rattle.sc_rules.specs.Hyperresolution.{AreUrSites, ur_numbers};
+ghost use Rattle.sc_core_rules.specs.declared.site.Pick.{Pick as APick};
+ghost use Rattle.sc_core_rules.specs.Hyperresolution.{AreUrSites, ur_numbers};
 ghost use Rattle.sc_resolve.specs.ByNumber.{seen};
 ghost use Rattle.sc_resolve.specs.Kept.{IsKept};
 ghost use Rattle.sc_resolve.specs.Extending.{Extends, Below};
@@ -10,21 +10,19 @@ ghost use Rattle.sc_hyper.specs.Candidates.{IsNarrow, IsFirst, DoRise};
 ghost use Rattle.sc_hyper.specs.Ur.{ur_of, IsWithTarget, IsWithTargets, IsWithUrUsable};
 
 use crate::candidates::{Candidate, units};
-use crate::choice::Choice;
+use crate::choice::PartialSite;
 use crate::choosing::choose;
 use crate::negatives::other_literals;
-use sc_data::Numbered;
+use sc_core_rules::{HyperSite, Pick, UrSite};
 use sc_resolve::by_number;
-use sc_rules::{HyperSite, Pick, UrSite};
-use sc_term::{Mem, width};
-use sqlite_items::Items;
+use sc_term::{List, Mem, Numbered, width};
 use std::alloc::Global;
 
 /// The numbers of the clauses.
-pub fn numbers(alloc: Global, picks: &[Pick]) -> Mem<Items<u32>>
+pub fn numbers(alloc: Global, picks: &[Pick]) -> Mem<List<u32>>
     ensures { IfOk result (λ ns. ns ≡ map (λ (p : APick). p.number) picks.now) }
 {
-    let mut numbers = Items::new(alloc);
+    let mut numbers = List::new(alloc);
     for pick in picks {
         numbers.push(pick.number)?;
     }
@@ -44,10 +42,10 @@ fn ur_site(alloc: Global, target: u32, whole: &HyperSite) -> Mem<UrSite>
 }
 
 /// The sites of whole choices.
-fn ur_sites_of(alloc: Global, target: u32, whole: &[HyperSite]) -> Mem<Items<UrSite>>
+fn ur_sites_of(alloc: Global, target: u32, whole: &[HyperSite]) -> Mem<List<UrSite>>
     ensures { IfOk result (λ sites. sites ≡ map (ur_of target) whole.now) }
 {
-    let mut sites = Items::new(alloc);
+    let mut sites = List::new(alloc);
     for site in whole {
         sites.push(ur_site(alloc, target, site)?)?;
     }
@@ -62,7 +60,7 @@ fn add_with_target(
     given: u32,
     units: &[Candidate],
     limit: usize,
-    sites: &mut Items<UrSite>,
+    sites: &mut List<UrSite>,
 ) -> Mem<()>
     requires kept { IsKept nucleus.now.clause }
     requires narrow { All IsNarrow units.now }
@@ -72,12 +70,12 @@ fn add_with_target(
     ensures { OnOk result (Extends ur_numbers (IsWithTarget given units.now nucleus.now target) limit sites.old sites.new) }
 {
     let found = other_literals(alloc, &nucleus.clause, target)?;
-    let choice = Choice {
-        picks: Items::new(alloc),
-        pairs: Items::new(alloc),
+    let choice = PartialSite {
+        picks: List::new(alloc),
+        pairs: List::new(alloc),
         low: width(&nucleus.clause),
     };
-    let mut whole = Items::new(alloc);
+    let mut whole = List::new(alloc);
     choose(
         alloc,
         nucleus.number,
@@ -100,7 +98,7 @@ fn add_with_targets(
     given: u32,
     units: &[Candidate],
     limit: usize,
-    sites: &mut Items<UrSite>,
+    sites: &mut List<UrSite>,
 ) -> Mem<()>
     requires kept { IsKept nucleus.now.clause }
     requires few { length nucleus.now.clause.literals ≤ 10000 }
@@ -130,7 +128,7 @@ fn ur_sites_with(
     given: u32,
     units: &[Candidate],
     limit: usize,
-) -> Mem<Items<UrSite>>
+) -> Mem<List<UrSite>>
     requires numbers { AllPairs (λ p q. p.number < q.number) (seen usable.now) }
     requires kept { All (λ p. IsKept p.clause) (seen usable.now) }
     requires narrow { All IsNarrow units.now }
@@ -138,7 +136,7 @@ fn ur_sites_with(
     requires rising { DoRise units.now }
     ensures { IfOk result (λ sites. Extends ur_numbers (Below (IsWithUrUsable given units.now (seen usable.now)) (length (seen usable.now))) limit [] sites) }
 {
-    let mut sites = Items::new(alloc);
+    let mut sites = List::new(alloc);
     for nucleus in usable {
         if sites.len() >= limit {
             return Ok(sites);
@@ -154,7 +152,7 @@ fn ur_sites_in_order(
     given: &Numbered,
     usable: &[&Numbered],
     limit: u32,
-) -> Mem<Items<UrSite>>
+) -> Mem<List<UrSite>>
     requires rising { AllPairs (λ p q. p.number < q.number) (seen usable.now) }
     requires kept { All (λ p. IsKept p.clause) (seen usable.now) }
     ensures { IfOk result (λ sites. AreUrSites given.now (seen usable.now) limit sites) }
@@ -175,9 +173,9 @@ fn ur_sites_in_order(
 pub fn ur_sites(
     alloc: Global,
     given: &Numbered,
-    usable: &Items<Numbered>,
+    usable: &List<Numbered>,
     limit: u32,
-) -> Mem<Items<UrSite>>
+) -> Mem<List<UrSite>>
     requires differ { AllPairs (λ p q. p.number ≢ q.number) usable.now }
     requires kept { All (λ p. IsKept p.clause) usable.now }
     ensures { IfOk result (λ sites. AreUrSites given.now usable.now limit sites) }

@@ -2,17 +2,17 @@
 use Rattle.std.proofs.Common.{◌≡◌, ◌∙◌, sym, ap, ℕ, ◌≤◌, false, List, map, arith}
 use Rattle.std.specs.Prelude.{codes, unwrap_or}
 use Rattle.std.proofs.Math.Nat.{min-eq_left}
-use Rattle.sc_reading.specs.declared.settings.Home.{Home}
-use Rattle.sc_reading.specs.declared.settings.Flags.{Flags}
-use Rattle.sc_reading.specs.declared.settings.Params.{Params}
-use Rattle.sc_reading.specs.Syntax.{WrittenClause}
-use Rattle.sc_reading.specs.Settings.{effective_flags}
-use Rattle.sc_reading.specs.ProblemGrammar.{Item}
-use Rattle.sc_reading.specs.Numbering.{symbols_of, clause_of}
-use Rattle.sc_reading.specs.Problem.{Stated, default_of, last_value, setting_of, flags_of, params_of, stated}
-use Rattle.sc_reading.specs.WellFormed.{AreParams}
-use Rattle.sc_grammar.specs.Items.{with_clipped}
-use Rattle.sc_grammar.proofs.Clipping.{last_setting-clipped, last_value-clipped, listed_clauses-clipped}
+use Rattle.sc_input_rules.specs.declared.settings.Home.{Home}
+use Rattle.sc_input_rules.specs.declared.settings.Flags.{Flags}
+use Rattle.sc_input_rules.specs.declared.settings.Params.{Params}
+use Rattle.sc_input_rules.specs.Syntax.{WrittenClause}
+use Rattle.sc_input_rules.specs.Settings.{effective_flags}
+use Rattle.sc_input_rules.specs.ProblemGrammar.{Item}
+use Rattle.sc_input_rules.specs.Numbering.{symbols_of, clause_of}
+use Rattle.sc_input_rules.specs.Problem.{Stated, default_of, last_value, setting_of, flags_of, params_of, stated}
+use Rattle.sc_input_rules.specs.WellFormed.{AreParams}
+use Rattle.sc_input_grammar.specs.Items.{with_clipped}
+use Rattle.sc_input_grammar.proofs.Clipping.{last_setting-clipped, last_value-clipped, listed_clauses-clipped}
 
 value-clipped : (name : List ℕ) (so_far : ℕ) (items : List Item) → so_far ≤ 20000 → last_value name so_far items ≤ 1000000 → last_value name so_far (map with_clipped items) ≡ last_value name so_far items
 value-clipped name so_far items low small =

@@ -1,20 +1,22 @@
 -- What is read of all tokens where none passes a limit, or of those up to the first that does, is the answer.
-use Rattle.std.proofs.Common.{◌≡◌, ◌∙◌, sym, ap, subst, refl, ℕ, zero, suc, ◌+◌, ◌-◌, ◌<◌, ◌≤◌, Bool, true, false, List, [], ◌∷◌, ◌++◌, length, map, take, drop, length-append, Option, Some, None, Result, Ok, Err, arith}
+use Rattle.std.proofs.Common.{◌≡◌, ◌∙◌, sym, ap, subst, refl, ℕ, zero, suc, ◌+◌, ◌-◌, ◌<◌, ◌≤◌, List, [], ◌∷◌, ◌++◌, length, map, take, drop, length-append, Option, Some, None, Result, Ok, Err, arith}
 use Rattle.std.specs.Prelude.{unwrap_or}
-use Rattle.sc_reading.specs.declared.fault.InputKind.{InputKind}
-use Rattle.sc_reading.specs.declared.fault.Place.{Place}
-use Rattle.sc_reading.specs.declared.token.Token.{Token}
-use Rattle.sc_reading.specs.Reader.{Read}
-use Rattle.sc_reading.specs.ProblemGrammar.{Item}
-use Rattle.sc_reading.specs.ProblemLimits.{problem_bounds, problem_fault_at}
-use Rattle.sc_reading.specs.Faults.{place, place_of, passed_behind, first_passed, judged}
-use Rattle.sc_reading.proofs.Prefix.{Good}
-use Rattle.sc_reading.proofs.PrefixOfProblems.{good_problem, good_items}
-use Rattle.sc_reading.proofs.TwoPasses.{on_front, two_passes}
-use Rattle.sc_scan.specs.Told.{failure_of}
-use Rattle.sc_grammar.specs.Items.{with_clipped, clipped_items}
+use Rattle.sc_input_rules.specs.declared.fault.InputKind.{InputKind}
+use Rattle.sc_input_rules.specs.declared.fault.Place.{Place}
+use Rattle.sc_input_rules.specs.declared.token.Token.{Token}
+use Rattle.sc_input_rules.specs.Reader.{Read}
+use Rattle.sc_input_rules.specs.ProblemGrammar.{Item}
+use Rattle.sc_input_rules.specs.ProblemLimits.{problem_bounds, problem_fault_at}
+use Rattle.sc_input_rules.specs.Faults.{place, place_of, passed_behind, first_passed, judged}
+use Rattle.sc_input_rules.proofs.Prefix.{Good}
+use Rattle.sc_input_rules.proofs.PrefixOfProblems.{good_problem, good_items}
+use Rattle.sc_input_rules.proofs.TwoPasses.{on_front, two_passes}
+use Rattle.sc_input_scan.specs.Told.{failure_of}
+use Rattle.sc_input_grammar.specs.declared.item.Ending.{Ending}
+use Rattle.sc_input_grammar.specs.declared.item.Ending.TheVariants.{AtEnd, AtSection}
+use Rattle.sc_input_grammar.specs.Items.{with_clipped, clipped_items}
 use Rattle.sc_input.specs.Answer.{production, first_byte, read_at, fault_at, answer, seen, told_by, told}
-use Rattle.sc_input.proofs.Ends.{Leaves, LeavesEnd, problem-end, items-end}
+use Rattle.sc_input_rules.proofs.Ends.{Leaves, LeavesEnd, problem-end, items-end}
 
 -- ---- no limit is passed
 
@@ -124,32 +126,32 @@ fails_behind view ts r n kind h e = fails_from ts (seen view r) n kind (seen-end
 
 -- ---- items
 
-production-end : (before_section : Bool) → LeavesEnd (production before_section)
-production-end true = items-end
-production-end false = problem-end
+production-end : (ending : Ending) → LeavesEnd (production ending)
+production-end AtSection = items-end
+production-end AtEnd = problem-end
 
-good_production : (before_section : Bool) (n m : ℕ) → Good n m (production before_section) (production before_section)
-good_production true = good_items
-good_production false = good_problem
+good_production : (ending : Ending) (n m : ℕ) → Good n m (production ending) (production ending)
+good_production AtSection = good_items
+good_production AtEnd = good_problem
 
 abbrev clips : List Item → List Item
 clips is = map with_clipped is
 
-production_fails : (before_section : Bool) (ts : List Token) (n : ℕ) (kind : InputKind) → failure_of (clipped_items (production before_section ts)) ≡ Some (n, kind) → FailsBehind ts n kind (clipped_items (production before_section ts))
-production_fails before_section ts n kind e = fails_behind clips ts (production before_section ts) n kind (production-end before_section ts) e
+production_fails : (ending : Ending) (ts : List Token) (n : ℕ) (kind : InputKind) → failure_of (clipped_items (production ending ts)) ≡ Some (n, kind) → FailsBehind ts n kind (clipped_items (production ending ts))
+production_fails ending ts n kind e = fails_behind clips ts (production ending ts) n kind (production-end ending ts) e
 
-pub few_left : (before_section : Bool) (ts : List Token) (n : ℕ) (kind : InputKind) → failure_of (clipped_items (production before_section ts)) ≡ Some (n, kind) → n ≤ length ts
-few_left before_section ts n kind e = (production_fails before_section ts n kind e).few
+pub few_left : (ending : Ending) (ts : List Token) (n : ℕ) (kind : InputKind) → failure_of (clipped_items (production ending ts)) ≡ Some (n, kind) → n ≤ length ts
+few_left ending ts n kind e = (production_fails ending ts n kind e).few
 
-pub answer_fails : (before_section : Bool) (ts : List Token) (n : ℕ) (kind : InputKind) (behind : Result ℕ Place) → failure_of (clipped_items (production before_section ts)) ≡ Some (n, kind)
-    → answer behind (clipped_items (production before_section ts)) ≡ Err (fault_at kind (first_byte behind (drop (length ts - n) ts)))
-answer_fails before_section ts n kind behind e = (production_fails before_section ts n kind e).fails behind
+pub answer_fails : (ending : Ending) (ts : List Token) (n : ℕ) (kind : InputKind) (behind : Result ℕ Place) → failure_of (clipped_items (production ending ts)) ≡ Some (n, kind)
+    → answer behind (clipped_items (production ending ts)) ≡ Err (fault_at kind (first_byte behind (drop (length ts - n) ts)))
+answer_fails ending ts n kind behind e = (production_fails ending ts n kind e).fails behind
 
-pub judged_unlimited : (before_section : Bool) (end : ℕ) (ts : List Token) → first_passed (problem_fault_at problem_bounds) ts ≡ None
-    → told end (judged (problem_fault_at problem_bounds) end ts (production before_section ts)) ≡ answer (Ok end) (clipped_items (production before_section ts))
-judged_unlimited before_section end ts e = unlimited (problem_fault_at problem_bounds) clips end ts (production before_section ts) e
+pub judged_unlimited : (ending : Ending) (end : ℕ) (ts : List Token) → first_passed (problem_fault_at problem_bounds) ts ≡ None
+    → told end (judged (problem_fault_at problem_bounds) end ts (production ending ts)) ≡ answer (Ok end) (clipped_items (production ending ts))
+judged_unlimited ending end ts e = unlimited (problem_fault_at problem_bounds) clips end ts (production ending ts) e
 
-pub judged_limited : (before_section : Bool) (end : ℕ) (ts : List Token) (k : ℕ) (p : Place) → k < length ts
+pub judged_limited : (ending : Ending) (end : ℕ) (ts : List Token) (k : ℕ) (p : Place) → k < length ts
     → first_passed (problem_fault_at problem_bounds) (take k ts) ≡ None → first_passed (problem_fault_at problem_bounds) (take (k + 1) ts) ≡ Some p
-    → told end (judged (problem_fault_at problem_bounds) end ts (production before_section ts)) ≡ answer (Err p) (clipped_items (production before_section (take (k + 1) ts)))
-judged_limited before_section end ts k p lt e e' = limited clips (production before_section) (good_production before_section) (problem_fault_at problem_bounds) end ts k p lt e e'
+    → told end (judged (problem_fault_at problem_bounds) end ts (production ending ts)) ≡ answer (Err p) (clipped_items (production ending (take (k + 1) ts)))
+judged_limited ending end ts k p lt e e' = limited clips (production ending) (good_production ending) (problem_fault_at problem_bounds) end ts k p lt e e'

@@ -1,4 +1,3 @@
-pub mod Ends
 pub mod Clipped
 pub mod Judging
 pub mod Stating

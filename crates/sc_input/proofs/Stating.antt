@@ -1,15 +1,16 @@
 -- What was judged says what the bytes are.
-use Rattle.std.proofs.Common.{◌≡◌, ◌∙◌, sym, ap, subst, refl, ℕ, true, false, List, length, map, Result, Ok, Err}
-use Rattle.sc_reading.specs.declared.fault.Place.{Place}
-use Rattle.sc_reading.specs.declared.token.Token.{Token}
-use Rattle.sc_reading.specs.ProblemGrammar.{Item}
-use Rattle.sc_reading.specs.ProblemLimits.{problem_bounds}
-use Rattle.sc_reading.specs.Faults.{place_of}
-use Rattle.sc_reading.specs.Problem.{Stated, stated}
-use Rattle.sc_reading.specs.Reading.{judged_items, problem_of, StatedItems, items_of}
-use Rattle.sc_reading.specs.WellFormed.{IsProblem}
-use Rattle.sc_reading.proofs.ReadProblems as reading
-use Rattle.sc_grammar.specs.Items.{with_clipped}
+use Rattle.std.proofs.Common.{◌≡◌, ◌∙◌, sym, ap, subst, refl, ℕ, List, length, map, Result, Ok, Err}
+use Rattle.sc_input_rules.specs.declared.fault.Place.{Place}
+use Rattle.sc_input_rules.specs.declared.token.Token.{Token}
+use Rattle.sc_input_rules.specs.ProblemGrammar.{Item}
+use Rattle.sc_input_rules.specs.ProblemLimits.{problem_bounds}
+use Rattle.sc_input_rules.specs.Faults.{place_of}
+use Rattle.sc_input_rules.specs.Problem.{Stated, stated}
+use Rattle.sc_input_rules.specs.Reading.{judged_items, problem_of, StatedItems, items_of}
+use Rattle.sc_input_rules.specs.WellFormed.{IsProblem}
+use Rattle.sc_input_rules.proofs.ReadProblems as reading
+use Rattle.sc_input_grammar.specs.declared.item.Ending.TheVariants.{AtEnd, AtSection}
+use Rattle.sc_input_grammar.specs.Items.{with_clipped}
 use Rattle.sc_input.specs.declared.refusal.InputError.{InputError}
 use Rattle.sc_input.specs.declared.refusal.InputError.TheVariants.{Refused, OutOfMemory}
 use Rattle.sc_input.specs.Refusal.{Refuses}
@@ -53,10 +54,10 @@ pub record States (bytes : List ℕ) (is : List Item) : Type 0 where
   pub meant : problem_of bytes ≡ Ok (stated is)
   pub keeps : IsProblem (stated is)
 
-pub problem_stated : (bytes : List ℕ) (is : List Item) (at : ℕ) → judged_at false bytes ≡ Ok (is, at) → States bytes is
+pub problem_stated : (bytes : List ℕ) (is : List Item) (at : ℕ) → judged_at AtEnd bytes ≡ Ok (is, at) → States bytes is
 unfolding as_stated
 problem_stated bytes is at e =
-    let r = is_read (judged_items problem_bounds (production false) bytes) (length bytes) is at e in
+    let r = is_read (judged_items problem_bounds (production AtEnd) bytes) (length bytes) is at e in
     let whole : problem_of bytes ≡ Ok (stated r.written) = ap as_stated r.read in
     let keeps = reading.read_problem bytes (stated r.written) whole in
     let same = same_stated r.written is r.clipped keeps in
@@ -66,10 +67,10 @@ pub record StatesBefore (bytes : List ℕ) (is : List Item) (at : ℕ) : Type 0 
   pub meant : items_of bytes ≡ Ok (record { problem = stated is; rest = at })
   pub keeps : IsProblem (stated is)
 
-pub items_stated : (bytes : List ℕ) (is : List Item) (at : ℕ) → judged_at true bytes ≡ Ok (is, at) → StatesBefore bytes is at
+pub items_stated : (bytes : List ℕ) (is : List Item) (at : ℕ) → judged_at AtSection bytes ≡ Ok (is, at) → StatesBefore bytes is at
 unfolding with_rest
 items_stated bytes is at e =
-    let r = is_read (judged_items problem_bounds (production true) bytes) (length bytes) is at e in
+    let r = is_read (judged_items problem_bounds (production AtSection) bytes) (length bytes) is at e in
     let all : StatedItems = record { problem = stated r.written; rest = place_of (length bytes) r.left } in
     let whole : items_of bytes ≡ Ok all = ap (with_rest bytes) r.read in
     let keeps = reading.read_items bytes all whole in
@@ -86,12 +87,12 @@ told_refused : (r : Judged) (end : ℕ) (p : Place) → told end r ≡ Err p →
 told_refused (Ok v) end p e = absurd cc
 told_refused (Err q) end p e = let same : q ≡ p = ap (place_or q) e in ap Err same
 
-pub problem_refused : (bytes : List ℕ) (e : InputError) → Refuses e (judged_at false bytes) → Refuses e (problem_of bytes)
+pub problem_refused : (bytes : List ℕ) (e : InputError) → Refuses e (judged_at AtEnd bytes) → Refuses e (problem_of bytes)
 unfolding as_stated
-problem_refused bytes (Refused p) h = ap as_stated (told_refused (judged_items problem_bounds (production false) bytes) (length bytes) p h)
+problem_refused bytes (Refused p) h = ap as_stated (told_refused (judged_items problem_bounds (production AtEnd) bytes) (length bytes) p h)
 problem_refused bytes OutOfMemory h = h
 
-pub items_refused : (bytes : List ℕ) (e : InputError) → Refuses e (judged_at true bytes) → Refuses e (items_of bytes)
+pub items_refused : (bytes : List ℕ) (e : InputError) → Refuses e (judged_at AtSection bytes) → Refuses e (items_of bytes)
 unfolding with_rest
-items_refused bytes (Refused p) h = ap (with_rest bytes) (told_refused (judged_items problem_bounds (production true) bytes) (length bytes) p h)
+items_refused bytes (Refused p) h = ap (with_rest bytes) (told_refused (judged_items problem_bounds (production AtSection) bytes) (length bytes) p h)
 items_refused bytes OutOfMemory h = h

@@ -1,22 +1,24 @@
 -- What reading some first tokens of a text says of all of it.
-use Rattle.std.specs.Prelude.{◌≡◌, ℕ, Bool, true, false, List, [], ◌∷◌, length, map, Result, Ok, Err}
-use Rattle.sc_reading.specs.declared.fault.InputKind.{InputKind}
-use Rattle.sc_reading.specs.declared.fault.Place.{Place}
-use Rattle.sc_reading.specs.declared.token.Token.{Token}
-use Rattle.sc_reading.specs.Token.{at_of}
-use Rattle.sc_reading.specs.Reader.{Read, ◌>>=◌}
-use Rattle.sc_reading.specs.ProblemGrammar.{Item, problem, items}
-use Rattle.sc_reading.specs.ProblemLimits.{problem_bounds}
-use Rattle.sc_reading.specs.Faults.{place, place_of}
-use Rattle.sc_reading.specs.Reading.{judged_items}
-use Rattle.sc_grammar.specs.Items.{with_clipped}
+use Rattle.std.specs.Prelude.{◌≡◌, ℕ, List, [], ◌∷◌, length, map, Result, Ok, Err}
+use Rattle.sc_input_rules.specs.declared.fault.InputKind.{InputKind}
+use Rattle.sc_input_rules.specs.declared.fault.Place.{Place}
+use Rattle.sc_input_rules.specs.declared.token.Token.{Token}
+use Rattle.sc_input_rules.specs.Token.{at_of}
+use Rattle.sc_input_rules.specs.Reader.{Read, ◌>>=◌}
+use Rattle.sc_input_rules.specs.ProblemGrammar.{Item, problem, items}
+use Rattle.sc_input_rules.specs.ProblemLimits.{problem_bounds}
+use Rattle.sc_input_rules.specs.Faults.{place, place_of}
+use Rattle.sc_input_rules.specs.Reading.{judged_items}
+use Rattle.sc_input_grammar.specs.declared.item.Ending.{Ending}
+use Rattle.sc_input_grammar.specs.declared.item.Ending.TheVariants.{AtEnd, AtSection}
+use Rattle.sc_input_grammar.specs.Items.{with_clipped}
 use Rattle.sc_input.specs.declared.refusal.InputError.{InputError}
 use Rattle.sc_input.specs.Refusal.{Refuses}
 
 -- the production of a problem: one that a section of a proof or a run may follow, or one that ends with the text
-abbrev pub production : Bool → List Token → Read (List Item)
-production true = items
-production false = problem
+abbrev pub production : Ending → List Token → Read (List Item)
+production AtSection = items
+production AtEnd = problem
 
 -- where the first of the tokens left begins; where none is left, what stands behind them: the byte at which the text
 -- ends, or the limit that the last of them passes
@@ -53,8 +55,8 @@ abbrev pub told : ℕ → Result (List Item × List Token) Place → Result (Lis
 told end judgement = told_by (map with_clipped) end judgement
 
 -- the same of bytes
-abbrev pub judged_at : Bool → List ℕ → Result (List Item × ℕ) Place
-judged_at before_section bytes = told (length bytes) (judged_items problem_bounds (production before_section) bytes)
+abbrev pub judged_at : Ending → List ℕ → Result (List Item × ℕ) Place
+judged_at ending bytes = told (length bytes) (judged_items problem_bounds (production ending) bytes)
 
 -- what a call returned, seen by view, is what was meant, unless memory ran out
 abbrev pub Tells : {X Y : Type 0} → (X → Y) → Result X InputError → Result Y Place → Type 0

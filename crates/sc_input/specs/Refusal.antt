@@ -1,6 +1,6 @@
 -- When a reader's refusal stands.
 use Rattle.std.specs.Prelude.{◌≡◌, ⊤, Result, Err}
-use Rattle.sc_reading.specs.declared.fault.Place.{Place}
+use Rattle.sc_input_rules.specs.declared.fault.Place.{Place}
 use Rattle.sc_input.specs.declared.refusal.InputError.{InputError}
 use Rattle.sc_input.specs.declared.refusal.InputError.TheVariants.{Refused, OutOfMemory}
 

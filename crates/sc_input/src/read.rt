@@ -1,24 +1,24 @@
 //! The readers.
 
 ghost use Rattle.std.specs.Prelude.{◌≡◌, ◌≤◌, ◌-◌, length, drop, Ok, IfOk, IfErr};
-ghost use Rattle.sc_reading.specs.Token.{at_of};
-ghost use Rattle.sc_reading.specs.Faults.{judged};
-ghost use Rattle.sc_reading.specs.ProblemLimits.{problem_bounds, problem_fault_at};
-ghost use Rattle.sc_reading.specs.Reading.{problem_of, items_of};
-ghost use Rattle.sc_scan.specs.Told.{Fails, Gives};
-ghost use Rattle.sc_grammar.specs.Items as grammar;
+ghost use Rattle.sc_input_rules.specs.Token.{at_of};
+ghost use Rattle.sc_input_rules.specs.Faults.{judged};
+ghost use Rattle.sc_input_rules.specs.ProblemLimits.{problem_bounds, problem_fault_at};
+ghost use Rattle.sc_input_rules.specs.Reading.{problem_of, items_of};
+ghost use Rattle.sc_input_scan.specs.Told.{Fails, Gives};
+ghost use Rattle.sc_input_grammar.specs.Items as grammar;
 ghost use Rattle.sc_input.specs.declared.refusal.InputError.TheVariants.{Refused};
 ghost use Rattle.sc_input.specs.Refusal.{Refuses};
 ghost use Rattle.sc_input.specs.Answer as spec;
 ghost use Rattle.sc_input.specs.Answer.{Tells};
 
 use crate::refusal::InputError;
-use sc_grammar::Item;
-use sc_limits::first_limit;
-use sc_problem::{Problem, problem_from};
-use sc_reading::{InputKind, Place, Token};
-use sc_scan::{Stop, scan_problem};
-use sqlite_items::Items as List;
+use sc_input_grammar::{Ending, Item};
+use sc_input_limits::first_limit;
+use sc_input_rules::{InputKind, Place, Problem, Token};
+use sc_input_scan::{Stop, scan_problem};
+use sc_input_values::problem_from;
+use sc_term::List;
 use std::alloc::Global;
 
 /// What may stand before a section of a proof or a run.
@@ -84,29 +84,28 @@ pub fn last_tokens<'t, 'a>(tokens: &'t [Token<'a>], count: usize) -> &'t [Token<
 /// The items of a problem, which a section of a proof or a run may follow or not.
 fn production<'t, 'a>(
     alloc: Global,
-    before_section: bool,
+    ending: Ending,
     tokens: &'t [Token<'a>],
 ) -> Result<(List<Item<'a>>, &'t [Token<'a>]), Stop>
-    ensures { Gives (λ x. (grammar.items_of x.0, x.1.now)) result (grammar.clipped_items (spec.production before_section tokens.now)) }
+    ensures { Gives (λ x. (grammar.items_of x.0, x.1.now)) result (grammar.clipped_items (spec.production ending tokens.now)) }
 {
-    if before_section {
-        sc_grammar::read_items(alloc, tokens)
-    } else {
-        sc_grammar::read_problem(alloc, tokens)
+    match ending {
+        Ending::AtEnd => sc_input_grammar::read_problem(alloc, tokens),
+        Ending::AtSection => sc_input_grammar::read_items(alloc, tokens),
     }
 }
 
 /// The items that the tokens begin with, and where the first token left begins, or what stands behind all.
 fn items_up_to<'a>(
     alloc: Global,
-    before_section: bool,
+    ending: Ending,
     behind: Result<u64, Place>,
     tokens: &[Token<'a>],
 ) -> Result<(List<Item<'a>>, Result<u64, Place>), Stop>
-    ensures ok { IfOk result (λ x. spec.answer behind (grammar.clipped_items (spec.production before_section tokens.now)) ≡ spec.read_at (grammar.items_of x.0) x.1) }
-    ensures err { IfErr result (λ e. Fails e (grammar.clipped_items (spec.production before_section tokens.now))) }
+    ensures ok { IfOk result (λ x. spec.answer behind (grammar.clipped_items (spec.production ending tokens.now)) ≡ spec.read_at (grammar.items_of x.0) x.1) }
+    ensures err { IfErr result (λ e. Fails e (grammar.clipped_items (spec.production ending tokens.now))) }
 {
-    let (items, left) = production(alloc, before_section, tokens)?;
+    let (items, left) = production(alloc, ending, tokens)?;
     Ok((items, first_byte(behind, left)))
 }
 
@@ -115,13 +114,13 @@ fn items_up_to<'a>(
 #[tactic(auto, using(crate::proofs::Laws::up_to))]
 fn read_up_to<'a>(
     alloc: Global,
-    before_section: bool,
+    ending: Ending,
     behind: Result<u64, Place>,
     tokens: &[Token<'a>],
 ) -> Result<(List<Item<'a>>, u64), InputError>
-    ensures { Tells (λ x. (grammar.items_of x.0, x.1)) result (spec.answer behind (grammar.clipped_items (spec.production before_section tokens.now))) }
+    ensures { Tells (λ x. (grammar.items_of x.0, x.1)) result (spec.answer behind (grammar.clipped_items (spec.production ending tokens.now))) }
 {
-    match items_up_to(alloc, before_section, behind, tokens) {
+    match items_up_to(alloc, ending, behind, tokens) {
         Ok((items, at)) => items_at(items, at),
         Err(Stop::At(left, kind)) => {
             let at = first_byte(behind, last_tokens(tokens, left));
@@ -135,17 +134,17 @@ fn read_up_to<'a>(
 #[tactic(auto, using(crate::proofs::Laws::within))]
 fn read_tokens<'a>(
     alloc: Global,
-    before_section: bool,
+    ending: Ending,
     end: u64,
     tokens: &[Token<'a>],
 ) -> Result<(List<Item<'a>>, u64), InputError>
-    ensures { Tells (λ x. (grammar.items_of x.0, x.1)) result (spec.told end (judged (problem_fault_at problem_bounds) end tokens.now (spec.production before_section tokens.now))) }
+    ensures { Tells (λ x. (grammar.items_of x.0, x.1)) result (spec.told end (judged (problem_fault_at problem_bounds) end tokens.now (spec.production ending tokens.now))) }
 {
     match first_limit(alloc, tokens)? {
-        None => read_up_to(alloc, before_section, Ok(end), tokens),
+        None => read_up_to(alloc, ending, Ok(end), tokens),
         Some(passed) => {
             let (front, _) = tokens.split_at(passed.token + 1);
-            read_up_to(alloc, before_section, Err(passed.place), front)
+            read_up_to(alloc, ending, Err(passed.place), front)
         }
     }
 }
@@ -153,13 +152,13 @@ fn read_tokens<'a>(
 /// What is read of bytes: the items, and the byte behind them.
 fn read_bytes<'a>(
     alloc: Global,
-    before_section: bool,
+    ending: Ending,
     bytes: &'a [u8],
 ) -> Result<(List<Item<'a>>, u64), InputError>
-    ensures { Tells (λ x. (grammar.items_of x.0, x.1)) result (spec.judged_at before_section bytes.now) }
+    ensures { Tells (λ x. (grammar.items_of x.0, x.1)) result (spec.judged_at ending bytes.now) }
 {
     let tokens = scan_problem(alloc, bytes)?;
-    read_tokens(alloc, before_section, bytes.len() as u64, tokens.as_slice())
+    read_tokens(alloc, ending, bytes.len() as u64, tokens.as_slice())
 }
 
 /// The problem that the bytes spell, as `problem_of` defines it. Time and memory are in proportion to the bytes.
@@ -171,7 +170,7 @@ pub fn read_problem(alloc: Global, bytes: &[u8]) -> Result<Problem, InputError>
     ensures ok { IfOk result (λ p. problem_of bytes.now ≡ Ok p) }
     ensures refused { IfErr result (λ e. Refuses e (problem_of bytes.now)) }
 {
-    let (items, _) = read_bytes(alloc, false, bytes)?;
+    let (items, _) = read_bytes(alloc, Ending::AtEnd, bytes)?;
     Ok(problem_from(alloc, items.as_slice())?)
 }
 
@@ -185,7 +184,7 @@ pub fn read_items(alloc: Global, bytes: &[u8]) -> Result<Items, InputError>
     ensures ok { IfOk result (λ r. items_of bytes.now ≡ Ok (record { problem = r.problem; rest = r.rest })) }
     ensures refused { IfErr result (λ e. Refuses e (items_of bytes.now)) }
 {
-    let (items, rest) = read_bytes(alloc, true, bytes)?;
+    let (items, rest) = read_bytes(alloc, Ending::AtSection, bytes)?;
     let problem = problem_from(alloc, items.as_slice())?;
     Ok(Items { problem, rest })
 }

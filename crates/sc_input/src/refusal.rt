@@ -3,7 +3,7 @@
 ghost use Rattle.std.specs.Prelude.{◌≡◌};
 ghost use Rattle.sc_input.specs.declared.refusal.InputError.TheVariants.{OutOfMemory};
 
-use sc_reading::Place;
+use sc_input_rules::Place;
 use sc_term::OutOfMemory;
 use thiserror::Error;
 

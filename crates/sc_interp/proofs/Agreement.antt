@@ -4,18 +4,18 @@ use Rattle.std.proofs.Common.{◌≡◌, ◌∙◌, sym, ap, subst, refl, ℕ, z
 use Rattle.std.specs.List.{AllByRecursion, list_any, range_with_len}
 use Rattle.std.proofs.lemmas.List.FromFn.{length-map-range_with_len, get_or-map-range_with_len}
 use Rattle.std.proofs.lemmas.Bool.{eqb-true, eqb-false}
-use Rattle.sc_data.specs.declared.SymId.{SymId}
-use Rattle.sc_data.specs.declared.Term.{Term, Var}
-use Rattle.sc_data.specs.declared.Term.TheVariants.{App}
-use Rattle.sc_data.specs.declared.Literal.{Literal}
-use Rattle.sc_data.specs.declared.Clause.{Clause}
-use Rattle.sc_data.specs.Term.{term_width}
-use Rattle.sc_data.specs.Clause.{literal_width, width}
-use Rattle.sc_data.specs.Interpretation.{Meaning, Assignment, value_step, value, atom_holds, literal_holds}
-use Rattle.sc_data.proofs.TermLaws.{term_ind, fold-Var, fold-App, width-Var, width-App}
+use Rattle.sc_term.specs.declared.SymId.{SymId}
+use Rattle.sc_term.specs.declared.Term.{Term, Var}
+use Rattle.sc_term.specs.declared.Term.TheVariants.{App}
+use Rattle.sc_term.specs.declared.Literal.{Literal}
+use Rattle.sc_term.specs.declared.Clause.{Clause}
+use Rattle.sc_term.specs.Term.{term_width}
+use Rattle.sc_term.specs.Clause.{literal_width, width}
+use Rattle.sc_term.specs.Interpretation.{Meaning, Assignment, value_step, value, atom_holds, literal_holds}
+use Rattle.sc_term.proofs.TermLaws.{term_ind, fold-Var, fold-App, width-Var, width-App}
 use Rattle.sc_interp.specs.declared.table.Table.{Table}
 use Rattle.sc_interp.specs.Structure.{tables_of_size, Satisfies}
-use Rattle.sc_interp.specs.Assignments.{AreElements, number_of, holds_at, HoldsBefore}
+use Rattle.sc_interp.specs.Assignments.{AreElements, assignment_number, holds_at, HoldsBefore}
 use Rattle.sc_interp.proofs.Assignments.{head, tail, one_number, bounded, first_number}
 
 -- the largest of a list is at most n: each is
@@ -95,16 +95,16 @@ falsified size tables c values some elements none all = true≢false (sym (all (
 -- one more assignment was tried
 pub tried : (size : ℕ) (tables : List Table) (c : Clause) (values : List ℕ) → AreElements size values → HoldsBefore size tables c values
     → holds_at size tables c values ≡ true → (others : List ℕ) → length others ≡ length values → AreElements size others
-    → number_of size others < number_of size values + 1 → holds_at size tables c others ≡ true
-tried size tables c values elements before here others long are lt = by (nat_eq (number_of size others) (number_of size values)) refl
+    → assignment_number size others < assignment_number size values + 1 → holds_at size tables c others ≡ true
+tried size tables c values elements before here others long are lt = by (nat_eq (assignment_number size others) (assignment_number size values)) refl
   where
-    by : (b : Bool) → nat_eq (number_of size others) (number_of size values) ≡ b → holds_at size tables c others ≡ true
-    by true e = ap (holds_at size tables c) (one_number size others values long are elements (eqb-true (number_of size others) (number_of size values) e)) ∙ here
-    by false e = let other = eqb-false (number_of size others) (number_of size values) e in before others long are (omega arith)
+    by : (b : Bool) → nat_eq (assignment_number size others) (assignment_number size values) ≡ b → holds_at size tables c others ≡ true
+    by true e = ap (holds_at size tables c) (one_number size others values long are elements (eqb-true (assignment_number size others) (assignment_number size values) e)) ∙ here
+    by false e = let other = eqb-false (assignment_number size others) (assignment_number size values) e in before others long are (omega arith)
 
 -- all assignments were tried
 pub all_tried : (size : ℕ) (tables : List Table) (c : Clause) (values : List ℕ) → AreElements size values → HoldsBefore size tables c values
-    → holds_at size tables c values ≡ true → number_of size values + 1 ≡ size ^ length values → HoldsEverywhere size tables c values
+    → holds_at size tables c values ≡ true → assignment_number size values + 1 ≡ size ^ length values → HoldsEverywhere size tables c values
 all_tried size tables c values elements before here last others long are =
     tried size tables c values elements before here others long are
     (omega (arith, bounded size others are, ap (λ n. size ^ n) long, last))

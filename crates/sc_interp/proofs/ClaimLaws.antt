@@ -3,7 +3,7 @@ use Rattle.std.proofs.Common.{◌≡◌, ◌∙◌, sym, ap, subst, refl, ℕ, �
 use Rattle.std.proofs.lemmas.Bool.{eqb-true}
 use Rattle.std.proofs.lemmas.Option.{slice_get-get_or}
 use Rattle.std.proofs.lemmas.List.{take_all}
-use Rattle.sc_data.specs.Numbering.{numbered}
+use Rattle.sc_term.specs.Numbering.{numbered}
 use Rattle.sc_interp.specs.declared.plain.Claim.{Claim}
 use Rattle.sc_interp.specs.Structure.{Structure, Satisfies}
 use Rattle.sc_interp.specs.Versions.{AreTrue, IsFirstFalse}

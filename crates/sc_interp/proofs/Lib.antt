@@ -4,4 +4,5 @@ pub mod Width
 pub mod Symbols
 pub mod Structures
 pub mod ClaimLaws
-pub mod RowLaws
+pub mod CanonicalMarks
+pub mod WideMarks

@@ -2,13 +2,13 @@
 use Rattle.std.proofs.Common.{◌≡◌, ◌∙◌, sym, ap, refl, ℕ, ◌+◌, ◌≤◌, Bool, true, false, ◌||◌, if◌then◌else◌, List, [], ◌∷◌, ◌++◌, length, map, max, fold, nat_eq, arith}
 use Rattle.std.specs.List.{AllByRecursion, list_any}
 use Rattle.std.proofs.lemmas.Bool.{eqb-true}
-use Rattle.sc_data.specs.declared.Term.{Term}
-use Rattle.sc_data.specs.declared.Literal.{Literal}
-use Rattle.sc_data.specs.declared.Clause.{Clause}
-use Rattle.sc_data.specs.Term.{largest, joined, term_width, term_variables}
-use Rattle.sc_data.specs.Clause.{literal_width, width, variables, firsts, firsts_after, counting_from, IsCanonical}
-use Rattle.sc_data.proofs.TermLaws.{term_ind, width-Var, width-App}
-use Rattle.sc_data.proofs.TermSteps.{variables-Var, variables-App}
+use Rattle.sc_term.specs.declared.Term.{Term}
+use Rattle.sc_term.specs.declared.Literal.{Literal}
+use Rattle.sc_term.specs.declared.Clause.{Clause}
+use Rattle.sc_term.specs.Term.{largest, joined, term_width, term_variables}
+use Rattle.sc_term.specs.Clause.{literal_width, width, variables, firsts, firsts_after, counting_from, IsCanonical}
+use Rattle.sc_term.proofs.TermLaws.{term_ind, width-Var, width-App}
+use Rattle.sc_term.proofs.TermSteps.{variables-Var, variables-App}
 
 -- 1 more than the greatest of the numbers, 0 of none
 abbrev above : List ℕ → ℕ

@@ -1,7 +1,7 @@
 -- The mark of a clause in tables.
 use Rattle.std.specs.Prelude.{◌≤◌, ◌<◌, ℕ, ◌^◌, length}
-use Rattle.sc_data.specs.declared.Clause.{Clause}
-use Rattle.sc_data.specs.Clause.{variables, firsts}
+use Rattle.sc_term.specs.declared.Clause.{Clause}
+use Rattle.sc_term.specs.Clause.{variables, firsts}
 use Rattle.sc_interp.specs.declared.plain.Truth.{Truth}
 use Rattle.sc_interp.specs.declared.plain.Truth.TheVariants.{True, False, Wide}
 use Rattle.sc_interp.specs.Structure.{Structure, Satisfies}

@@ -1,10 +1,10 @@
 -- Tables, and their reading as an interpretation whose elements are the numbers below their size.
 use Rattle.std.specs.Prelude.{◌≡◌, ◌<◌, ◌≤◌, ℕ, ◌+◌, ◌-◌, ◌*◌, ◌^◌, List, Option, Some, None, IsSomeAnd, All, map, nat_eq, length, replicate, drop, slice_index, slice_set}
 use Rattle.std.specs.List.{AllZip, fold, sum_by}
-use Rattle.sc_data.specs.declared.SymId.{SymId}
-use Rattle.sc_data.specs.declared.Clause.{Clause}
-use Rattle.sc_data.specs.Numbering.{numbered}
-use Rattle.sc_data.specs.Interpretation.{Meaning, IsTrueIn}
+use Rattle.sc_term.specs.declared.SymId.{SymId}
+use Rattle.sc_term.specs.declared.Clause.{Clause}
+use Rattle.sc_term.specs.Numbering.{numbered}
+use Rattle.sc_term.specs.Interpretation.{Meaning, IsTrueIn}
 use Rattle.sc_term.specs.declared.symbol.Role.{Role}
 use Rattle.sc_term.specs.declared.symbol.Role.TheVariants.{Function, Predicate}
 use Rattle.sc_term.specs.declared.symbol.Symbol.{Symbol}

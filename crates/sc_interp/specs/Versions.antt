@@ -1,6 +1,6 @@
 -- Tables with input clauses that they make true.
 use Rattle.std.specs.Prelude.{ℕ, ◌-◌, List, [], IsSomeAnd, All, take}
-use Rattle.sc_data.specs.Numbering.{numbered}
+use Rattle.sc_term.specs.Numbering.{numbered}
 use Rattle.sc_term.specs.declared.symbol.Symbol.{Symbol}
 use Rattle.sc_interp.specs.declared.plain.Claim.{Claim}
 use Rattle.sc_interp.specs.Structure.{Structure, IsStructure, Satisfies, zeros}

@@ -1,7 +1,7 @@
 //! Assignments of elements to variables, one after another.
 
 ghost use Rattle.std.specs.Prelude.{◌≡◌, ◌≤◌, ◌<◌, ◌+◌, ◌^◌, length, replicate, true, false};
-ghost use Rattle.sc_interp.specs.Assignments.{AreElements, number_of};
+ghost use Rattle.sc_interp.specs.Assignments.{AreElements, assignment_number};
 
 /// Makes the next assignment of it. False after the last, of which it makes the first one again.
 pub fn advance(size: u8, values: &mut [u8]) -> bool
@@ -9,8 +9,8 @@ pub fn advance(size: u8, values: &mut [u8]) -> bool
     requires elements { AreElements size values.old }
     ensures elements { AreElements size values.new }
     ensures length { length values.new ≡ length values.old }
-    ensures next { result ≡ true → number_of size values.new ≡ number_of size values.old + 1 }
-    ensures last { result ≡ false → number_of size values.old + 1 ≡ size ^ length values.old }
+    ensures next { result ≡ true → assignment_number size values.new ≡ assignment_number size values.old + 1 }
+    ensures last { result ≡ false → assignment_number size values.old + 1 ≡ size ^ length values.old }
 {
     for value in values.iter_mut() {
         if *value < size - 1 {

@@ -1,7 +1,7 @@
 //! Whether tables make claims true.
 
 ghost use Rattle.std.specs.Prelude.{◌≡◌, ◌≤◌, ◌<◌, ◌^◌, All, length, IfNone, IfSome};
-ghost use Rattle.sc_data.specs.Clause.{width};
+ghost use Rattle.sc_term.specs.Clause.{width};
 ghost use Rattle.sc_interp.specs.Versions.{AreTrue, IsFirstFalse};
 ghost use Rattle.sc_interp.specs.declared.plain.Claim.{Claim as AClaim};
 

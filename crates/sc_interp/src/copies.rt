@@ -4,25 +4,23 @@ ghost use Rattle.std.specs.Prelude.{◌≡◌, IfOk};
 
 use crate::plain::Claim;
 use crate::table::Table;
-use sc_data::{Clause, Literal, Term};
-use sc_term::{Mem, copy_term};
-use sqlite_items::Items;
+use sc_term::{Clause, List, Literal, Mem, Term, copy_term};
 use std::alloc::Global;
 
-fn copy_terms(alloc: Global, terms: &[Term]) -> Mem<Items<Term>>
+fn copy_terms(alloc: Global, terms: &[Term]) -> Mem<List<Term>>
     ensures { IfOk result (λ r. r ≡ terms.now) }
 {
-    let mut copies = Items::new(alloc);
+    let mut copies = List::new(alloc);
     for term in terms {
         copies.push(copy_term(alloc, term)?)?;
     }
     Ok(copies)
 }
 
-fn copy_literals(alloc: Global, literals: &[Literal]) -> Mem<Items<Literal>>
+fn copy_literals(alloc: Global, literals: &[Literal]) -> Mem<List<Literal>>
     ensures { IfOk result (λ r. r ≡ literals.now) }
 {
-    let mut copies = Items::new(alloc);
+    let mut copies = List::new(alloc);
     for literal in literals {
         copies.push(Literal {
             positive: literal.positive,
@@ -33,10 +31,10 @@ fn copy_literals(alloc: Global, literals: &[Literal]) -> Mem<Items<Literal>>
     Ok(copies)
 }
 
-pub fn copy_claims(alloc: Global, claims: &[Claim]) -> Mem<Items<Claim>>
+pub fn copy_claims(alloc: Global, claims: &[Claim]) -> Mem<List<Claim>>
     ensures { IfOk result (λ r. r ≡ claims.now) }
 {
-    let mut copies = Items::new(alloc);
+    let mut copies = List::new(alloc);
     for claim in claims {
         let literals = copy_literals(alloc, claim.clause.literals.as_slice())?;
         copies.push(Claim {
@@ -55,7 +53,7 @@ pub fn copy_tables(alloc: Global, tables: &[Table]) -> Mem<Vec<Table>>
         copies.push(Table {
             role: table.role,
             arity: table.arity,
-            entries: Items::from_slice(alloc, table.entries.as_slice())?,
+            entries: List::from_slice(alloc, table.entries.as_slice())?,
         })?;
     }
     Ok(copies)

@@ -3,12 +3,12 @@
 ghost use Rattle.std.specs.Prelude.{◌≡◌, ℕ, ◌≤◌, ◌-◌, ◌+◌, ◌^◌, map, min, slice_index};
 ghost use Rattle.std.specs.List.{list_any};
 ghost use Rattle.std.specs.Option.{option_copied};
-ghost use Rattle.sc_data.specs.Interpretation as spec;
-ghost use Rattle.sc_data.specs.Numbering.{numbered};
+ghost use Rattle.sc_term.specs.Interpretation as spec;
+ghost use Rattle.sc_term.specs.Numbering.{numbered};
 ghost use Rattle.sc_interp.specs.Structure.{entry_in, place_of, tables_of_size};
 
 use crate::table::Table;
-use sc_data::{Clause, Literal, SymId, Term};
+use sc_term::{Clause, Literal, SymId, Term};
 
 /// The number at a place, 0 past the end. A place that no `usize` holds is passed as the greatest one.
 fn number_at(numbers: &[u8], at: usize) -> u8

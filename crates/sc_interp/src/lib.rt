@@ -5,11 +5,11 @@
 //! what they keep (`IsStructure`); `specs/Marks` has the mark of a clause, `specs/Versions` what a `Version` keeps: its
 //! claims are true in its tables (`IsVersion`).
 //!
-//! It stands on `sc_data`, whose definition of truth under an assignment (`Interpretation`) it uses, on `sc_term` for
-//! signatures, copies and comparisons, and on `sqlite_items` for lists, which contracts see as lists.
+//! It stands on `sc_term`, whose definition of truth under an assignment (`Interpretation`) it uses, with its signatures,
+//! copies and comparisons, and on `sqlite_items` for lists, which contracts see as lists.
 //!
 //! Callers may rest on this: `truth` is the mark, for every canonical clause, also one with symbols that have no table,
-//! whose entries count as 0; `Version::make` answers `Ok` exactly where every claim is true, and otherwise the first
+//! whose entries count as 0; `mark_of` is that of any clause; `Version::make` answers `Ok` exactly where every claim is true, and otherwise the first
 //! that isn't; a copy is the same version. What takes memory says so by its type.
 #![tactic(auto)]
 
@@ -19,17 +19,18 @@ mod compare;
 mod copies;
 mod evaluate;
 mod mark;
+mod marking;
 mod plain;
 mod satisfied;
 mod table;
 mod tables;
 mod version;
 
-pub use mark::{Assign, MAX_ASSIGNMENTS, truth};
+pub use mark::{Assign, truth};
+pub use marking::mark_of;
 pub use plain::{Claim, Truth, VersionName};
-pub use sqlite_items::Items as List;
 pub use table::Table;
-pub use tables::{MAX_ENTRIES, Tables, TablesError};
+pub use tables::{Tables, TablesError};
 pub use version::{ClaimError, Version, same};
 
 #[cfg(test)]

@@ -1,19 +1,15 @@
 //! The mark of a clause in tables.
 
 ghost use Rattle.std.specs.Prelude.{◌≡◌, ◌≤◌, ◌<◌, ◌^◌, ◌↔◌, min, IsTrue, IfOk};
-ghost use Rattle.sc_data.specs.Clause.{IsCanonical, width};
+ghost use Rattle.sc_term.specs.Clause.{IsCanonical, width};
 ghost use Rattle.sc_interp.specs.Marks.{IsMark};
 
 use crate::plain::Truth;
 use crate::satisfied::is_satisfied;
 use crate::tables::Tables;
-use sc_data::Clause;
-use sc_term::{Mem, full_width};
+use sc_term::{Clause, MAX_ASSIGNMENTS, Mem, full_width};
 use std::alloc::Global;
 use std::marker::Model;
-
-/// The most assignments that are tried for a mark.
-pub const MAX_ASSIGNMENTS: u32 = 4096;
 
 /// A register of elements, one for each of so many variables. Contracts see how many.
 #[derive(Debug, Drop)]

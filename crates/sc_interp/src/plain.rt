@@ -1,6 +1,6 @@
 //! What is said of clauses in tables, as plain data.
 
-use sc_data::Clause;
+use sc_term::Clause;
 
 /// Whether tables make a clause true; `Wide` where too many assignments would have to be tried.
 #[derive(Clone, Copy, Debug, PartialEq, Eq)]

@@ -1,14 +1,13 @@
 //! Truth of a clause in tables, by all assignments.
 
 ghost use Rattle.std.specs.Prelude.{◌≤◌, ◌↔◌, IsTrue, length};
-ghost use Rattle.sc_data.specs.Clause.{width};
+ghost use Rattle.sc_term.specs.Clause.{width};
 ghost use Rattle.sc_interp.specs.Structure.{Satisfies};
 
 use crate::assign::{advance, start};
 use crate::evaluate::some_literal_holds;
 use crate::table::Table;
-use sc_data::Clause;
-use sc_term::full_width;
+use sc_term::{Clause, full_width};
 
 /// Whether every assignment to so many variables as there are places makes some literal true. The first that doesn't
 /// ends the search.

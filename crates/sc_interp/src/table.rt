@@ -1,7 +1,6 @@
 //! What tables are, as plain data.
 
-use sc_term::Role;
-use sqlite_items::Items;
+use sc_term::{List, Role};
 
 /// The values of one symbol. The entry of the arguments i1 to ik stands at the place that starts at 0 and, for each
 /// argument in order, becomes the size times itself plus that argument.
@@ -9,5 +8,5 @@ use sqlite_items::Items;
 pub struct Table {
     pub role: Role,
     pub arity: u8,
-    pub entries: Items<u8>,
+    pub entries: List<u8>,
 }

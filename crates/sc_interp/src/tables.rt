@@ -1,6 +1,6 @@
 //! Tables over a signature.
 
-ghost use Rattle.std.specs.Prelude.{◌≡◌, ◌≤◌, ◌<◌, ◌^◌, map, drop, replicate, List, length, slice_get, IsSomeAnd, IfOk, OnOk, IfErr};
+ghost use Rattle.std.specs.Prelude.{◌≡◌, ◌≤◌, ◌<◌, ◌^◌, map, drop, replicate, List as AList, length, slice_get, IsSomeAnd, IfOk, OnOk, IfErr};
 ghost use Rattle.sc_interp.specs.Structure.{zero_table, zeros, entry_count, entry_at, with_entry_in, with_entry, HasPlace, MayHold, IsStructure, AreTablesOf};
 ghost use Rattle.sc_term.specs.declared.symbol.Symbol.{Symbol as ASymbol};
 ghost use Rattle.sc_interp.specs.Tables.{IsCauseOfTables};
@@ -8,15 +8,10 @@ ghost use Rattle.sc_interp.specs.Tables.{IsCauseOfTables};
 use crate::copies::copy_tables;
 use crate::evaluate::entry;
 use crate::table::Table;
-use sc_data::SymId;
-use sc_term::{Mem, OutOfMemory, Signature};
-use sqlite_items::Items;
+use sc_term::{List, MAX_ENTRIES, Mem, OutOfMemory, Signature, SymId};
 use std::alloc::Global;
 use std::marker::Model;
 use thiserror::Error;
-
-/// The most entries that tables have.
-pub const MAX_ENTRIES: u64 = 1_048_576;
 
 /// Why tables weren't made.
 #[derive(Clone, Copy, Debug, PartialEq, Eq, Error)]
@@ -69,11 +64,11 @@ fn count_entries(sig: &Signature, size: u8) -> u64
     count
 }
 
-fn zero_entries(alloc: Global, len: usize) -> Mem<Items<u8>>
+fn zero_entries(alloc: Global, len: usize) -> Mem<List<u8>>
     ensures { IfOk result (λ entries. entries ≡ replicate len 0) }
 {
     let entries = vec![in alloc; 0u8; len]?;
-    Ok(Items::from_vec(entries))
+    Ok(List::from_vec(entries))
 }
 
 fn zero_tables(alloc: Global, sig: &Signature, size: u8) -> Mem<Vec<Table>>
@@ -173,7 +168,7 @@ impl Tables {
         requires there { HasPlace self.old sym place }
         requires in_range { MayHold self.old sym value }
         ensures value { self.new ≡ with_entry self.old sym place value }
-        ensures over { (symbols : List ASymbol) → AreTablesOf symbols self.old → AreTablesOf symbols self.new }
+        ensures over { (symbols : AList ASymbol) → AreTablesOf symbols self.old → AreTablesOf symbols self.new }
     {
         set_entry(
             self.tables.as_mut_slice(),

@@ -1,64 +1,17 @@
-ghost use Rattle.std.specs.Prelude.{◌≡◌, ◌∷◌, [], true, IfOk, IsTrue};
-ghost use Rattle.sc_data.specs.declared.Term.{Var};
-ghost use Rattle.sc_data.specs.Clause.{IsCanonical, width};
+ghost use Rattle.std.specs.Prelude.{IsTrue};
 ghost use Rattle.sc_interp.specs.Structure.{HasPlace, MayHold};
 
 use crate::evaluate::table_of;
-use crate::{
-    Assign, Claim, ClaimError, Tables, TablesError, Truth, Version, VersionName, same, truth,
-};
-use sc_data::{Clause, Literal, SymId, Term};
-use sc_term::{Mem, Role, Signature, Symbol};
-use sqlite_items::Items;
+use crate::{Claim, ClaimError, Tables, TablesError, Version, same};
+use sc_term::{Clause, List, Literal, Mem, Role, Signature, SymId, Symbol, Term};
 use std::alloc::Global;
 
 fn added(alloc: Global, sig: &mut Signature, name: &[u8], arity: u8, role: Role) -> Option<SymId> {
     if arity > 8 {
         return None;
     }
-    let name = Items::from_slice(alloc, name).ok()?;
+    let name = List::from_slice(alloc, name).ok()?;
     sig.add(Symbol { name, arity, role }).ok()
-}
-
-/// `p(xn)`, where `p` is symbol 1.
-fn atom(alloc: Global, n: u32) -> Mem<Literal>
-    ensures { IfOk result (λ l. l ≡ record { positive = true; pred = record { 0 = 1 }; args = Var n ∷ [] }) }
-{
-    let mut args = Items::new(alloc);
-    args.push(Term::Var(n))?;
-    Ok(Literal {
-        positive: true,
-        pred: SymId(1),
-        args,
-    })
-}
-
-/// `p(x0) | p(x1) | ..`, of so many literals.
-fn row(alloc: Global, count: u32) -> Mem<Clause>
-    ensures canonical { IfOk result IsCanonical }
-    ensures wide { IfOk result (λ c. width c ≡ count) }
-{
-    let mut literals = Items::new(alloc);
-    for n in 0..count {
-        literals.push(atom(alloc, n)?)?;
-    }
-    Ok(Clause { literals })
-}
-
-/// The mark of such a row in tables of size 4 whose entries are all 0.
-fn row_mark(alloc: Global, count: u32) -> Option<Truth> {
-    let mut sig = Signature::new(alloc).ok()?;
-    added(alloc, &mut sig, b"p", 1, Role::Predicate)?;
-    let tables = Tables::new(alloc, &sig, 4).ok()?;
-    let c = row(alloc, count).ok()?;
-    let mut register = Assign::new(alloc, count).ok()?;
-    Some(truth(&tables, &c, &mut register))
-}
-
-#[test]
-fn a_row_of_six_variables_is_false_and_of_seven_wide(rt: HostRuntime) {
-    assert_eq!(rt; row_mark(rt.alloc(), 6), Some(Truth::False));
-    assert_eq!(rt; row_mark(rt.alloc(), 7), Some(Truth::Wide));
 }
 
 /// Whether the entry is there and may have the value.
@@ -91,17 +44,17 @@ fn unequal(alloc: Global) -> Option<Tables> {
 }
 
 /// `a=b`, or `a!=b`, as a claim.
-fn claims(alloc: Global, equal: bool) -> Mem<Items<Claim>> {
-    let mut args = Items::new(alloc);
-    args.push(Term::App(SymId(1), Items::new(alloc)))?;
-    args.push(Term::App(SymId(2), Items::new(alloc)))?;
-    let mut literals = Items::new(alloc);
+fn claims(alloc: Global, equal: bool) -> Mem<List<Claim>> {
+    let mut args = List::new(alloc);
+    args.push(Term::App(SymId(1), List::new(alloc)))?;
+    args.push(Term::App(SymId(2), List::new(alloc)))?;
+    let mut literals = List::new(alloc);
     literals.push(Literal {
         positive: equal,
         pred: SymId(0),
         args,
     })?;
-    let mut claims = Items::new(alloc);
+    let mut claims = List::new(alloc);
     claims.push(Claim {
         number: 1,
         clause: Clause { literals },
@@ -157,15 +110,4 @@ fn widest(alloc: Global) -> Option<(u8, usize, bool, Option<TablesError>)> {
 fn the_opening_version_has_size_two_where_size_eight_is_too_wide(rt: HostRuntime) {
     let wide = TablesError::TooWide { count: 16_777_216 };
     assert_eq!(rt; widest(rt.alloc()), Some((2, 0, false, Some(wide))));
-    let name = VersionName {
-        finder: 0,
-        place: 0,
-    };
-    assert_eq!(rt;
-        name,
-        VersionName {
-            finder: 0,
-            place: 0
-        }
-    );
 }

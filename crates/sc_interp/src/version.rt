@@ -11,8 +11,7 @@ use crate::compare::{same_claims, same_tables};
 use crate::copies::copy_claims;
 use crate::plain::Claim;
 use crate::tables::Tables;
-use sc_term::{Mem, Signature};
-use sqlite_items::Items;
+use sc_term::{List, Mem, Signature};
 use std::alloc::Global;
 use std::marker::Model;
 use thiserror::Error;
@@ -31,12 +30,12 @@ pub enum ClaimError {
 #[derive(Debug, Drop)]
 pub struct Version {
     tables: Tables,
-    claims: Items<Claim>,
+    claims: List<Claim>,
 }
 
 impl Model for Version {
     ghost use Rattle.std.specs.Coded.{codes};
-    ghost use Rattle.sc_data.specs.contracts.Term as term;
+    ghost use Rattle.sc_term.specs.contracts.Term as term;
     ghost use Rattle.sc_interp.specs.Versions.{ClaimedStructure, IsVersion};
 
     ghost Value = { ClaimedStructure };
@@ -51,7 +50,7 @@ impl Model for Version {
 impl Version {
     /// The tables with the claims, where every claim is true; otherwise `False` with the first that isn't. Both
     /// arguments are spent. It takes as many steps as the claims have ground instances.
-    pub fn make(alloc: Global, tables: Tables, claims: Items<Claim>) -> Result<Version, ClaimError>
+    pub fn make(alloc: Global, tables: Tables, claims: List<Claim>) -> Result<Version, ClaimError>
         requires { length claims < 2 ^ 32 }
         ensures value { IfOk result (λ v. v ≡ record { tables = tables; claims = claims }) }
         ensures claims { OnOk result (AreTrue tables claims) }
@@ -79,7 +78,7 @@ impl Version {
         let tables = Tables::zeros(alloc, sig, 2)?;
         Ok(Version {
             tables,
-            claims: Items::new(alloc),
+            claims: List::new(alloc),
         })
     }
 
@@ -90,7 +89,7 @@ impl Version {
         &self.tables
     }
 
-    pub fn claims(&self) -> &Items<Claim>
+    pub fn claims(&self) -> &List<Claim>
         ensures value { result.now ≡ self.now.claims }
         ensures kept { IsVersion self.now }
     {

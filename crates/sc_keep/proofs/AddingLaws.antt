@@ -2,22 +2,23 @@
 use Rattle.std.proofs.Common.{◌≡◌, ◌≢◌, ◌∙◌, sym, ap, subst, refl, ℕ, ◌+◌, ◌<◌, inl, inr, List, [], ◌∷◌, ◌++◌, length, get_or, Some, None, Option, arith, length-append}
 use Rattle.std.specs.Prelude.{IsSomeAnd, MatchOption}
 use Rattle.std.specs.List.{Contains}
-use Rattle.sc_data.specs.declared.Term.{Term}
-use Rattle.sc_data.specs.declared.Clause.{Clause}
-use Rattle.sc_data.specs.declared.Line.{Line}
-use Rattle.sc_data.specs.declared.Numbered.{Numbered}
-use Rattle.sc_data.specs.declared.Step.TheVariants.{Input, Instance}
-use Rattle.sc_data.specs.Clause.{IsCanonical, firsts, instance, variables, width}
-use Rattle.sc_data.specs.Proof.{clause_of}
+use Rattle.sc_term.specs.declared.Term.{Term}
+use Rattle.sc_term.specs.declared.Clause.{Clause}
+use Rattle.sc_term.specs.declared.Line.{Line}
+use Rattle.sc_term.specs.declared.Numbered.{Numbered}
+use Rattle.sc_term.specs.declared.Step.TheVariants.{Input, Instance}
+use Rattle.sc_term.specs.Clause.{IsCanonical, firsts, instance, variables, width}
+use Rattle.sc_term.specs.Proof.{clause_of}
 use Rattle.sc_interp.proofs.Width.{canonical_width}
 use Rattle.sc_steps.specs.Derivation.{IsInputAt}
 use Rattle.sc_steps.proofs.LineLaws.{clause_of_end, clause_in_whole, number_in_front_or_end}
 use Rattle.sc_steps.proofs.ListLaws.{some_and}
 use Rattle.sc_steps.specs.Splice.{named_by}
-use Rattle.sc_data.specs.Numbering.{numbered}
-use Rattle.sc_rules.specs.Derivation.{AddsInput, AreTermsTo}
+use Rattle.sc_term.specs.Numbering.{numbered}
+use Rattle.sc_core_rules.specs.Derivation.{AddsInput, AreTermsTo}
 use Rattle.sc_keep.specs.Adding.{IsPartLine, AddedPart}
-use Rattle.sc_keep.proofs.CanonicalLaws.{counted, all_at, all_firsts, all_each}
+use Rattle.sc_keep.proofs.CanonicalLaws.{counted, all_at, all_firsts}
+use Rattle.sc_term.proofs.CanonicalForm.{all_each}
 
 -- each number below the width of a canonical clause is that of a variable
 pub each_occurs : (c : Clause) → IsCanonical c → (n : ℕ) → n < width c → Contains (variables c) n

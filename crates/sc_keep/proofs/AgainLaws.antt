@@ -2,23 +2,23 @@
 use Rattle.std.proofs.Common.{◌≡◌, ◌≢◌, sym, subst, ℕ, ◌⊎◌, inl, inr, Bool, true, false, List, [], ◌∷◌, ◌++◌, Some, arith}
 use Rattle.std.specs.List.{Contains}
 use Rattle.std.proofs.lemmas.List.Elements.{All-contains}
-use Rattle.sc_data.specs.declared.Clause.{Clause}
-use Rattle.sc_data.specs.declared.Line.{Line}
-use Rattle.sc_data.specs.declared.Numbered.{Numbered}
-use Rattle.sc_data.specs.Numbering.{numbered}
-use Rattle.sc_reading.specs.Problem.{Stated}
-use Rattle.sc_rules.specs.declared.fate.Fate.{Fate}
-use Rattle.sc_rules.specs.declared.fate.Processed.{Processed}
-use Rattle.sc_rules.specs.Order.{With}
-use Rattle.sc_rules.specs.Rewriting.{HasRedex}
-use Rattle.sc_rules.specs.Book.{Book, IsSound, next_number, numbered_clauses, with_deleted}
-use Rattle.sc_rules.specs.Processing.{AreOthers, with_kept, Keeps, Sweeps, MeetsFate, Processes, only_fate}
-use Rattle.sc_rules.proofs.DerivedBook.{all_stand}
-use Rattle.sc_rules.proofs.FilterLaws.{in_first}
-use Rattle.sc_rules.proofs.OrderLaws.{first_or_later, at_first, later}
-use Rattle.sc_rules.proofs.ProcessLaws.{Becomes}
-use Rattle.sc_rules.proofs.SoundLaws.{deleted_sound, kept_sound}
-use Rattle.sc_rules.proofs.SoundProcessing.{where_either}
+use Rattle.sc_term.specs.declared.Clause.{Clause}
+use Rattle.sc_term.specs.declared.Line.{Line}
+use Rattle.sc_term.specs.declared.Numbered.{Numbered}
+use Rattle.sc_term.specs.Numbering.{numbered}
+use Rattle.sc_input_rules.specs.Problem.{Stated}
+use Rattle.sc_core_rules.specs.declared.fate.Fate.{Fate}
+use Rattle.sc_core_rules.specs.declared.fate.Processed.{Processed}
+use Rattle.sc_core_rules.specs.Order.{With}
+use Rattle.sc_core_rules.specs.Rewriting.{HasRedex}
+use Rattle.sc_core_rules.specs.Book.{Book, IsSound, next_number, numbered_clauses, with_deleted}
+use Rattle.sc_core_rules.specs.Processing.{AreOthers, with_kept, Keeps, Sweeps, MeetsFate, Processes, only_fate}
+use Rattle.sc_core_rules.proofs.DerivedBook.{all_stand}
+use Rattle.sc_core_rules.proofs.FilterLaws.{in_first}
+use Rattle.sc_term.proofs.ContainsLaws.{first_or_later, at_first, later}
+use Rattle.sc_core_rules.proofs.ProcessLaws.{Becomes}
+use Rattle.sc_core_rules.proofs.SoundLaws.{deleted_sound, kept_sound}
+use Rattle.sc_core_rules.proofs.SoundProcessing.{where_either}
 use Rattle.sc_keep.specs.Sweep.{numbers}
 
 -- the number is that of a clause

@@ -5,30 +5,30 @@ use Rattle.std.proofs.Math.Seq.{take-suc}
 use Rattle.std.proofs.lemmas.Option.{slice_get_within, get_or_from_slice_get}
 use Rattle.std.proofs.lemmas.List.{length-map}
 use Rattle.std.proofs.lemmas.List.Elements.{All-nil, All-cons}
-use Rattle.sc_steps.specs.declared.derivation.Derived.{Derived}
-use Rattle.sc_data.specs.declared.Clause.{Clause}
+use Rattle.sc_steps.specs.declared.derivations.derivation.Derived.{Derived}
+use Rattle.sc_term.specs.declared.Clause.{Clause}
 use Rattle.sc_term.specs.declared.symbol.Symbol.{Symbol}
-use Rattle.sc_reading.specs.Problem.{Stated}
-use Rattle.sc_reading.specs.WellFormed.{IsInput, IsProblem}
+use Rattle.sc_input_rules.specs.Problem.{Stated}
+use Rattle.sc_input_rules.specs.WellFormed.{IsInput, IsProblem}
 use Rattle.std.specs.List.{Contains}
-use Rattle.sc_data.specs.declared.Numbered.{Numbered}
-use Rattle.sc_data.specs.declared.Line.{Line}
-use Rattle.sc_data.specs.Numbering.{numbered}
-use Rattle.sc_data.specs.Proof.{AreSteps}
+use Rattle.sc_term.specs.declared.Numbered.{Numbered}
+use Rattle.sc_term.specs.declared.Line.{Line}
+use Rattle.sc_term.specs.Numbering.{numbered}
+use Rattle.sc_term.specs.Proof.{AreSteps}
 use Rattle.sc_demod.specs.Standing.{ChecksWith}
-use Rattle.sc_rules.specs.Rewriting.{IsDemodulator}
-use Rattle.sc_rules.specs.Turn.{with_given}
-use Rattle.sc_rules.specs.Book.{Book, IsDerived, IsSound, live, next_number, numbered_clauses}
+use Rattle.sc_core_rules.specs.Rewriting.{IsDemodulator}
+use Rattle.sc_core_rules.specs.Turn.{with_given}
+use Rattle.sc_core_rules.specs.Book.{Book, IsDerived, IsSound, live, next_number, numbered_clauses}
 use Rattle.sc_keep.specs.declared.lists.Lists.{Lists}
 use Rattle.sc_keep.specs.Lists.{AreReady, book_of}
 use Rattle.sc_keep.specs.State.{empty_book}
 use Rattle.sc_keep.specs.Sweep.{HaveDistinctNumbers}
 use Rattle.sc_keep.proofs.DistinctLaws.{none_distinct}
 use Rattle.sc_keep.proofs.StaysReady.{give_stays_ready}
-use Rattle.sc_rules.specs.Start.{Starts}
-use Rattle.sc_rules.specs.Run.{started}
-use Rattle.sc_rules.proofs.DerivedRun.{run_derived}
-use Rattle.sc_rules.proofs.SoundLaws.{StandsIn, at}
+use Rattle.sc_core_rules.specs.Start.{Starts}
+use Rattle.sc_core_rules.specs.Run.{started}
+use Rattle.sc_core_rules.proofs.DerivedRun.{run_derived}
+use Rattle.sc_core_rules.proofs.SoundLaws.{StandsIn, at}
 use Rattle.sc_keep.specs.Rivals.{IsFit, IsFitClause}
 
 -- ---- copies

@@ -3,32 +3,26 @@ use Rattle.std.proofs.Common.{◌≡◌, ◌≢◌, ◌∙◌, sym, ap, subst, r
 use Rattle.std.specs.List.{Contains, AllByRecursion, list_any, fold, position_or_len}
 use Rattle.std.proofs.lemmas.Bool.{eqb-true, eqb-false, lt-ltb, le-ltb}
 use Rattle.std.proofs.lemmas.List.Sums.{position_or_len_is}
-use Rattle.sc_data.specs.declared.Term.{Term, Var}
-use Rattle.sc_data.specs.declared.Literal.{Literal}
-use Rattle.sc_data.specs.declared.Clause.{Clause}
-use Rattle.sc_data.specs.Clause.{counting_from, firsts, firsts_after, variables, width, literal_width}
-use Rattle.sc_data.specs.JointInstance.{canonical, renumbering}
-use Rattle.sc_data.specs.Term.{value_of, largest, joined, term_width, term_variables}
-use Rattle.sc_data.specs.declared.Term.TheVariants.{App}
-use Rattle.sc_data.proofs.TermLaws.{term_ind, width-Var, width-App}
-use Rattle.sc_data.proofs.TermSteps.{variables-Var, variables-App}
-use Rattle.sc_data.proofs.SubstitutionLaws.{clause_laws, all_join}
-use Rattle.sc_rules.specs.Derivation.{AreTermsTo}
-use Rattle.sc_rules.proofs.OrderLaws.{first_or_later, later}
+use Rattle.sc_term.specs.declared.Term.{Term, Var}
+use Rattle.sc_term.specs.declared.Literal.{Literal}
+use Rattle.sc_term.specs.declared.Clause.{Clause}
+use Rattle.sc_term.specs.Clause.{counting_from, firsts, firsts_after, variables, width, literal_width}
+use Rattle.sc_term.specs.JointInstance.{canonical, renumbering}
+use Rattle.sc_term.specs.Term.{value_of, largest, joined, term_width, term_variables}
+use Rattle.sc_term.specs.declared.Term.TheVariants.{App}
+use Rattle.sc_term.proofs.TermLaws.{term_ind, width-Var, width-App}
+use Rattle.sc_term.proofs.TermSteps.{variables-Var, variables-App}
+use Rattle.sc_term.proofs.SubstitutionLaws.{clause_laws, all_join}
+use Rattle.sc_core_rules.specs.Derivation.{AreTermsTo}
+use Rattle.sc_term.proofs.ContainsLaws.{first_or_later, later}
 use Rattle.sc_steps.proofs.LineLaws.{in_whole, at_end}
-use Rattle.sc_reading.proofs.SymbolNumbers.{found_within}
-use Rattle.sc_rules.proofs.DerivationLaws.{at_found}
+use Rattle.sc_input_rules.proofs.SymbolNumbers.{found_within}
+use Rattle.sc_core_rules.proofs.DerivationLaws.{at_found}
 use Rattle.std.proofs.lemmas.Option.{get_or_from_slice_get}
 use Rattle.sc_keep.specs.Canonical.{place_or_first, place_terms}
+use Rattle.sc_term.proofs.CanonicalForm.{all_each, in_order}
 
 -- ---- counting
-
-pub counts : (n : ℕ) (xs : List ℕ) → ((k : ℕ) → k < length xs → get_or xs k 0 ≡ n + k) → xs ≡ counting_from n xs
-counts n [] h = refl
-counts n (x ∷ xs) h =
-    let first : x ≡ n = omega (arith, h 0 (omega arith)) in
-    let rest = counts (n + 1) xs (λ k less. omega (arith, h (suc k) (omega arith))) in
-    λ i. first i ∷ rest i
 
 pub counted : (n : ℕ) (xs : List ℕ) → xs ≡ counting_from n xs → (k : ℕ) → k < length xs → get_or xs k 0 ≡ n + k
 counted n [] e k less = absurd (omega arith)
@@ -125,55 +119,6 @@ clause_below c = all_below (λ (l : Literal). joined (map term_variables l.args)
 
 -- ---- what stands first
 
-either : (a b : Bool) → (a || b) ≡ true → (a ≡ true) ⊎ (b ≡ true)
-either true b e = inl refl
-either false b e = inr e
-
-or_left : (a b : Bool) → a ≡ true → (a || b) ≡ true
-or_left true b e = refl
-or_left false b e = cc
-
-or_right : (a b : Bool) → b ≡ true → (a || b) ≡ true
-or_right true b e = refl
-or_right false b e = e
-
-any_firsts : (n : ℕ) (seen ns : List ℕ) → list_any (nat_eq n) ns ≡ true → (list_any (nat_eq n) seen ≡ true) ⊎ (list_any (nat_eq n) (firsts_after seen ns) ≡ true)
-any_firsts n seen [] e = cc
-any_firsts n seen (m ∷ ms) e = by (list_any (nat_eq m) seen) refl (either (nat_eq n m) (list_any (nat_eq n) ms) e) (any_firsts n seen ms) (any_firsts n (m ∷ seen) ms)
-  where
-    seen_or : (list_any (nat_eq n) (m ∷ seen) ≡ true) ⊎ (list_any (nat_eq n) (firsts_after (m ∷ seen) ms) ≡ true)
-        → (list_any (nat_eq n) seen ≡ true) ⊎ ((nat_eq n m || list_any (nat_eq n) (firsts_after (m ∷ seen) ms)) ≡ true)
-    seen_or (inr f) = inr (or_right (nat_eq n m) _ f)
-    seen_or (inl f) = elim (either (nat_eq n m) (list_any (nat_eq n) seen) f) [
-      | inl g ↦ inr (or_left (nat_eq n m) _ g)
-      | inr g ↦ inl g
-    ]
-
-    by : (b : Bool) → list_any (nat_eq m) seen ≡ b → (nat_eq n m ≡ true) ⊎ (list_any (nat_eq n) ms ≡ true)
-        → (list_any (nat_eq n) ms ≡ true → (list_any (nat_eq n) seen ≡ true) ⊎ (list_any (nat_eq n) (firsts_after seen ms) ≡ true))
-        → (list_any (nat_eq n) ms ≡ true → (list_any (nat_eq n) (m ∷ seen) ≡ true) ⊎ (list_any (nat_eq n) (firsts_after (m ∷ seen) ms) ≡ true))
-        → (list_any (nat_eq n) seen ≡ true) ⊎ (list_any (nat_eq n) (if b then firsts_after seen ms else m ∷ firsts_after (m ∷ seen) ms) ≡ true)
-    by true f (inl g) old new = inl (ap (λ k. list_any (nat_eq k) seen) (eqb-true n m g) ∙ f)
-    by true f (inr g) old new = old g
-    by false f (inl g) old new = inr (or_left (nat_eq n m) _ g)
-    by false f (inr g) old new = seen_or (new g)
-
-any_there : (n : ℕ) (ns : List ℕ) → Contains ns n → list_any (nat_eq n) ns ≡ true
-any_there n [] h = absurd (omega (arith, h.1))
-any_there n (m ∷ ms) h = by (λ k. any_there n ms k) (first_or_later n m ms h)
-  where
-    same : (b : Bool) → nat_eq n m ≡ b → m ≡ n → b ≡ true
-    same true f e = refl
-    same false f e = absurd (eqb-false n m f (sym e))
-
-    by : (Contains ms n → list_any (nat_eq n) ms ≡ true) → (m ≡ n) ⊎ Contains ms n → (nat_eq n m || list_any (nat_eq n) ms) ≡ true
-    by below (inl e) = or_left (nat_eq n m) _ (same (nat_eq n m) refl e)
-    by below (inr k) = or_right (nat_eq n m) _ (below k)
-
-pub all_each : (P : ℕ → Type 0) (ns : List ℕ) → ((n : ℕ) → Contains ns n → P n) → AllByRecursion P ns
-all_each P [] h = tt
-all_each P (n ∷ ns) h = (h n (0, omega arith, refl), all_each P ns (λ m k. h m (later m n ns k)))
-
 pub all_firsts : (P : ℕ → Type 0) (seen ns : List ℕ) → AllByRecursion P ns → AllByRecursion P (firsts_after seen ns)
 all_firsts P seen [] h = tt
 all_firsts P seen (n ∷ ns) h = by (list_any (nat_eq n) seen) (all_firsts P seen ns h.1) (all_firsts P (n ∷ seen) ns h.1)
@@ -201,18 +146,11 @@ module _ (c : Clause) where
       get_or_from_slice_get terms n (Var (place_or_first order n)) (Var n) (place_got order (width c) n less)
       ∙ ap (λ b. Var (if b then position_or_len (nat_eq n) order else 0)) (lt-ltb (position_or_len (nat_eq n) order) (length order) (found_within (nat_eq n) order there))
 
-  pub in_order : (n : ℕ) → Contains (variables c) n → list_any (nat_eq n) order ≡ true
-  in_order n h = by (any_firsts n [] (variables c) (any_there n (variables c) h))
-    where
-      by : (list_any (nat_eq n) [] ≡ true) ⊎ (list_any (nat_eq n) order ≡ true) → list_any (nat_eq n) order ≡ true
-      by (inl e) = cc
-      by (inr e) = e
-
   pub canonical_terms : AreTermsTo c (canonical c) terms
   canonical_terms = record {
     many = places_long order (width c);
     gives = (clause_laws c).agree (value_of terms) (renumbering order)
-        (all_each (λ n. value_of terms n ≡ renumbering order n) (variables c) (λ n h. placed n (at_found (λ n. n < width c) (variables c) n (clause_below c) h) (in_order n h)));
+        (all_each (λ n. value_of terms n ≡ renumbering order n) (variables c) (λ n h. placed n (at_found (λ n. n < width c) (variables c) n (clause_below c) h) (in_order c n h)));
     rest = λ n less absent. place_got order (width c) n less ∙ ap (λ k. Some (Var k)) (place_nowhere order n
         (λ k low e. absent (subst (Contains (variables c)) e (all_at (Contains (variables c)) order k (all_firsts (Contains (variables c)) [] (variables c) (all_each (Contains (variables c)) (variables c) (λ n h. h))) low))));
   }

@@ -1,30 +1,30 @@
 -- Two units that conflict, and two that don't.
 use Rattle.std.proofs.Common.{◌≡◌, ◌≢◌, ◌∙◌, sym, ap, subst, refl, ℕ, zero, suc, ◌+◌, List, [], ◌∷◌, ◌++◌, length, map, get_or, Some, Option, inl, Bool, true, false, not, arith, length-append}
 use Rattle.std.specs.Prelude.{IsSomeAnd}
-use Rattle.sc_data.specs.declared.Term.{Term, Var}
-use Rattle.sc_data.specs.declared.Literal.{Literal}
-use Rattle.sc_data.specs.declared.Clause.{Clause}
-use Rattle.sc_data.specs.declared.Line.{Line}
-use Rattle.sc_data.specs.declared.Numbered.{Numbered}
-use Rattle.sc_data.specs.declared.Pair.{Pair}
-use Rattle.sc_data.specs.declared.Step.TheVariants.{Input, Resolve}
-use Rattle.sc_data.specs.Clause.{IsCanonical, IsWithinLimits, instance, width}
-use Rattle.sc_data.specs.Proof.{AreOpposite, IsResolvent, clause_of}
-use Rattle.sc_data.specs.Refuted.{Atom, atom_of}
-use Rattle.sc_data.specs.Term.{term_under}
-use Rattle.sc_data.specs.Substitution.{Substitution, literal_under, clause_under}
-use Rattle.sc_data.specs.JointInstance.{IsJointInstance, apart, renumbered, whole}
-use Rattle.sc_steps.specs.declared.derivation.Derived.{Derived}
+use Rattle.sc_term.specs.declared.Term.{Term, Var}
+use Rattle.sc_term.specs.declared.Literal.{Literal}
+use Rattle.sc_term.specs.declared.Clause.{Clause}
+use Rattle.sc_term.specs.declared.Line.{Line}
+use Rattle.sc_term.specs.declared.Numbered.{Numbered}
+use Rattle.sc_term.specs.declared.Pair.{Pair}
+use Rattle.sc_term.specs.declared.Step.TheVariants.{Input, Resolve}
+use Rattle.sc_term.specs.Clause.{IsCanonical, IsWithinLimits, instance, width}
+use Rattle.sc_term.specs.Proof.{AreOpposite, IsResolvent, clause_of}
+use Rattle.sc_term.specs.Refuted.{Atom, atom_of}
+use Rattle.sc_term.specs.Term.{term_under}
+use Rattle.sc_term.specs.Substitution.{Substitution, literal_under, clause_under}
+use Rattle.sc_term.specs.JointInstance.{IsJointInstance, apart, renumbered, whole}
+use Rattle.sc_steps.specs.declared.derivations.derivation.Derived.{Derived}
 use Rattle.sc_steps.specs.Derivation.{last_clause, IsInputAt}
-use Rattle.sc_data.specs.Numbering.{numbered}
+use Rattle.sc_term.specs.Numbering.{numbered}
 use Rattle.sc_steps.proofs.ListLaws.{some_and}
 use Rattle.sc_steps.proofs.LineLaws.{clause_of_end, number_within}
 use Rattle.sc_unify.specs.Joint.{AreTermsOf}
-use Rattle.sc_rules.specs.Derivation.{Adds, AddsParts}
-use Rattle.sc_rules.specs.Inference.{Resolving}
-use Rattle.sc_rules.specs.Pairing.{ArePairs, HaveOppositeSigns, places_in}
-use Rattle.sc_rules.specs.Conflict.{Conflicts}
-use Rattle.sc_rules.proofs.ProcessLaws.{pairs_one}
+use Rattle.sc_core_rules.specs.Derivation.{Adds, AddsParts}
+use Rattle.sc_core_rules.specs.Inference.{Resolving}
+use Rattle.sc_core_rules.specs.Pairing.{ArePairs, HaveOppositeSigns, places_in}
+use Rattle.sc_core_rules.specs.Conflict.{Conflicts}
+use Rattle.sc_core_rules.proofs.ProcessLaws.{pairs_one}
 use Rattle.sc_keep.specs.Parts.{HasNoParts, HasParts, unit_pairs}
 use Rattle.sc_keep.specs.Adding.{AddedPart}
 

@@ -3,18 +3,18 @@ use Rattle.std.proofs.Common.{◌≡◌, ◌∙◌, sym, ap, subst, refl, ℕ, z
 use Rattle.std.specs.List.{Contains, All, AllByRecursion, AllPairs}
 use Rattle.std.proofs.lemmas.List.{get_or-take, get_or_default, length-take-le}
 use Rattle.std.proofs.lemmas.List.Elements.{Contains-get_or}
-use Rattle.sc_data.specs.declared.Clause.{Clause}
-use Rattle.sc_data.specs.declared.Numbered.{Numbered}
-use Rattle.sc_data.specs.Numbering.{numbered}
-use Rattle.sc_reading.specs.declared.settings.Home.{Home}
-use Rattle.sc_reading.specs.declared.settings.Home.TheVariants.{Demodulators}
-use Rattle.sc_reading.specs.WellFormed.{FitsHome}
-use Rattle.sc_rules.specs.Order.{IsFilter}
-use Rattle.sc_rules.specs.Rewriting.{IsDemodulator}
-use Rattle.sc_rules.specs.Start.{numbered_from}
-use Rattle.sc_rules.proofs.DemodulatorLaws.{home_of_demodulators}
-use Rattle.sc_rules.proofs.FilterLaws.{filter_within}
-use Rattle.sc_rules.proofs.NumberLaws.{numbered-suc}
+use Rattle.sc_term.specs.declared.Clause.{Clause}
+use Rattle.sc_term.specs.declared.Numbered.{Numbered}
+use Rattle.sc_term.specs.Numbering.{numbered}
+use Rattle.sc_input_rules.specs.declared.settings.Home.{Home}
+use Rattle.sc_input_rules.specs.declared.settings.Home.TheVariants.{Demodulators}
+use Rattle.sc_input_rules.specs.WellFormed.{FitsHome}
+use Rattle.sc_core_rules.specs.Order.{IsFilter}
+use Rattle.sc_core_rules.specs.Rewriting.{IsDemodulator}
+use Rattle.sc_core_rules.specs.Start.{numbered_from}
+use Rattle.sc_core_rules.proofs.DemodulatorLaws.{home_of_demodulators}
+use Rattle.sc_core_rules.proofs.FilterLaws.{filter_within}
+use Rattle.sc_core_rules.proofs.NumberLaws.{numbered-suc}
 
 -- ---- what stands at a place
 

@@ -3,8 +3,8 @@ use Rattle.std.proofs.Common.{◌≡◌, ◌≢◌, subst, refl, ℕ, inl, inr, 
 use Rattle.std.specs.List.{Contains, AllByRecursion, IsDistinct}
 use Rattle.std.proofs.lemmas.Bool.{eqb-true}
 use Rattle.std.proofs.lemmas.Map.Keys.{IsDistinct-cons, IsDistinct-head, IsDistinct-tail}
-use Rattle.sc_data.specs.declared.Numbered.{Numbered}
-use Rattle.sc_rules.proofs.OrderLaws.{first_or_later, at_first, later}
+use Rattle.sc_term.specs.declared.Numbered.{Numbered}
+use Rattle.sc_term.proofs.ContainsLaws.{first_or_later, at_first, later}
 use Rattle.sc_keep.specs.Sweep.{HaveDistinctNumbers, numbers}
 
 -- the number is that of none of the clauses

@@ -1,14 +1,14 @@
 -- The earliest rival, and the first clause that ends the start, where one more clause is looked at.
 use Rattle.std.proofs.Common.{◌≡◌, sym, subst, refl, ◌<◌, inl, inr, List, [], ◌∷◌, ◌++◌, Option, Some, None, Contains}
 use Rattle.std.specs.Prelude.{MatchOption}
-use Rattle.sc_data.specs.declared.Numbered.{Numbered}
-use Rattle.sc_data.specs.Numbering.{numbered}
-use Rattle.sc_reading.specs.declared.settings.Home.{Home}
-use Rattle.sc_reading.specs.declared.settings.Home.TheVariants.{Demodulators}
-use Rattle.sc_reading.specs.Problem.{Stated}
-use Rattle.sc_steps.specs.declared.derivation.Derived.{Derived}
-use Rattle.sc_rules.specs.Conflict.{Conflicts}
-use Rattle.sc_rules.specs.Start.{EndsStart, IsEarlierRival}
+use Rattle.sc_term.specs.declared.Numbered.{Numbered}
+use Rattle.sc_term.specs.Numbering.{numbered}
+use Rattle.sc_input_rules.specs.declared.settings.Home.{Home}
+use Rattle.sc_input_rules.specs.declared.settings.Home.TheVariants.{Demodulators}
+use Rattle.sc_input_rules.specs.Problem.{Stated}
+use Rattle.sc_steps.specs.declared.derivations.derivation.Derived.{Derived}
+use Rattle.sc_core_rules.specs.Conflict.{Conflicts}
+use Rattle.sc_core_rules.specs.Start.{EndsStart, IsEarlierRival}
 use Rattle.sc_keep.specs.declared.rival.Rival.{Rival}
 use Rattle.sc_keep.specs.declared.start.Ending.{Ending}
 use Rattle.sc_keep.specs.Start.{EndsBy, HasInput, IsBelowEnding, IsFirstEnding, IsLeastEarlier}

@@ -1,17 +1,17 @@
 -- A dropped conclusion meets its fate, and another is kept.
 use Rattle.std.proofs.Common.{◌≡◌, sym, refl, ℕ, inl, inr, List, [], Bool, true, Option, Some, None}
 use Rattle.std.specs.Prelude.{MatchOption}
-use Rattle.sc_data.specs.declared.Numbered.{Numbered}
-use Rattle.sc_subsume.specs.Subsumption.{Subsumes}
+use Rattle.sc_term.specs.declared.Numbered.{Numbered}
+use Rattle.sc_term.specs.Subsumption.{Subsumes}
 use Rattle.sc_keep.specs.Least.{IsLeastNumber}
-use Rattle.sc_data.specs.declared.Clause.{Clause}
-use Rattle.sc_data.specs.declared.Line.{Line}
-use Rattle.sc_reading.specs.Problem.{Stated}
-use Rattle.sc_rules.specs.declared.fate.Fate.{Fate}
-use Rattle.sc_rules.specs.declared.fate.Fate.TheVariants.{Kept, Empty, Taut, Heavy, Long, Subsumed}
-use Rattle.sc_rules.specs.declared.fate.Processed.{Processed}
-use Rattle.sc_rules.specs.Book.{Book, live, next_number}
-use Rattle.sc_rules.specs.Processing.{only_fate, with_kept, Keeps, MeetsFate}
+use Rattle.sc_term.specs.declared.Clause.{Clause}
+use Rattle.sc_term.specs.declared.Line.{Line}
+use Rattle.sc_input_rules.specs.Problem.{Stated}
+use Rattle.sc_core_rules.specs.declared.fate.Fate.{Fate}
+use Rattle.sc_core_rules.specs.declared.fate.Fate.TheVariants.{Kept, Empty, Taut, Heavy, Long, Subsumed}
+use Rattle.sc_core_rules.specs.declared.fate.Processed.{Processed}
+use Rattle.sc_core_rules.specs.Book.{Book, live, next_number}
+use Rattle.sc_core_rules.specs.Processing.{only_fate, with_kept, Keeps, MeetsFate}
 use Rattle.sc_keep.specs.Dropping.{IsDropped, IsSubsumed, IsSubsumedBy}
 
 module _ (problem : Stated) (old : Book) (c : Clause) (lines : List Line) (turn : ℕ) (some : ¬ (c.literals ≡ [])) where

@@ -3,9 +3,9 @@ use Rattle.std.proofs.Common.{◌≡◌, ◌≢◌, ◌∙◌, sym, ap, subst, r
 use Rattle.std.specs.List.{Contains, remove}
 use Rattle.std.proofs.lemmas.Bool.{eqb-false}
 use Rattle.std.proofs.lemmas.Option.{get_or_from_slice_get}
-use Rattle.sc_data.specs.declared.Numbered.{Numbered}
-use Rattle.sc_rules.specs.Book.{Book, leaving_out}
-use Rattle.sc_rules.specs.Turn.{with_given}
+use Rattle.sc_term.specs.declared.Numbered.{Numbered}
+use Rattle.sc_core_rules.specs.Book.{Book, leaving_out}
+use Rattle.sc_core_rules.specs.Turn.{with_given}
 use Rattle.sc_keep.specs.Sweep.{without_numbers}
 
 same_number : (m n : ℕ) → m ≡ n → nat_eq m n ≡ true

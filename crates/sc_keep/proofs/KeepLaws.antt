@@ -2,18 +2,18 @@
 use Rattle.std.proofs.Common.{◌≡◌, ◌∙◌, sym, ap, subst, refl, ℕ, inl, inr, Bool, true, false, Option, Some, None, List, [], ◌∷◌, ◌++◌}
 use Rattle.std.specs.List.{Contains}
 use Rattle.std.proofs.lemmas.List.{map-append}
-use Rattle.sc_data.specs.declared.Clause.{Clause}
-use Rattle.sc_data.specs.declared.Numbered.{Numbered}
-use Rattle.sc_reading.specs.Problem.{Stated}
-use Rattle.sc_reading.specs.declared.settings.Flags.{Flags}
-use Rattle.sc_subsume.specs.Subsumption.{Subsumes}
-use Rattle.sc_rules.specs.declared.fate.Fate.TheVariants.{Kept}
-use Rattle.sc_rules.specs.declared.fate.Processed.{Processed}
-use Rattle.sc_rules.specs.Order.{Where, With}
-use Rattle.sc_rules.specs.Rewriting.{HasRedex, BecomesDemodulator}
-use Rattle.sc_rules.specs.Book.{Book, leaving_out, with_deleted}
-use Rattle.sc_rules.specs.Conflict.{IsUnit}
-use Rattle.sc_rules.specs.Processing.{AreOthers, IsRival, Keeps, Sweeps, with_demodulator}
+use Rattle.sc_term.specs.declared.Clause.{Clause}
+use Rattle.sc_term.specs.declared.Numbered.{Numbered}
+use Rattle.sc_input_rules.specs.Problem.{Stated}
+use Rattle.sc_input_rules.specs.declared.settings.Flags.{Flags}
+use Rattle.sc_term.specs.Subsumption.{Subsumes}
+use Rattle.sc_core_rules.specs.declared.fate.Fate.TheVariants.{Kept}
+use Rattle.sc_core_rules.specs.declared.fate.Processed.{Processed}
+use Rattle.sc_core_rules.specs.Order.{Where, With}
+use Rattle.sc_core_rules.specs.Rewriting.{HasRedex, BecomesDemodulator}
+use Rattle.sc_core_rules.specs.Book.{Book, leaving_out, with_deleted}
+use Rattle.sc_core_rules.specs.Conflict.{IsUnit}
+use Rattle.sc_core_rules.specs.Processing.{AreOthers, IsRival, Keeps, Sweeps, with_demodulator}
 use Rattle.sc_keep.specs.declared.rival.Rival.{Rival}
 use Rattle.sc_keep.specs.Rivals.{IsLeastRival}
 use Rattle.sc_keep.specs.Sweep.{Deletes, Demodulates, numbers, without_numbers}

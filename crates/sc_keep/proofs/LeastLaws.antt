@@ -2,11 +2,11 @@
 use Rattle.std.proofs.Common.{◌≡◌, ◌∙◌, sym, ap, subst, refl, ℕ, ◌+◌, ◌<◌, ◌⊎◌, inl, inr, List, [], ◌∷◌, ◌++◌, append_assoc, length, take, get_or, Option, Some, None, arith}
 use Rattle.std.proofs.lemmas.List.{take_more}
 use Rattle.std.specs.List.{Contains}
-use Rattle.sc_data.specs.declared.Numbered.{Numbered}
-use Rattle.sc_rules.specs.Order.{IsLeast, IsBefore}
-use Rattle.sc_rules.specs.Rewriting.{number_of}
-use Rattle.sc_rules.proofs.OrderLaws.{first_or_later, at_first}
-use Rattle.sc_rules.proofs.FilterLaws.{in_either, in_first, in_second}
+use Rattle.sc_term.specs.declared.Numbered.{Numbered}
+use Rattle.sc_core_rules.specs.Order.{IsLeast, IsBefore}
+use Rattle.sc_core_rules.specs.Rewriting.{number_of}
+use Rattle.sc_term.proofs.ContainsLaws.{first_or_later, at_first}
+use Rattle.sc_core_rules.proofs.FilterLaws.{in_either, in_first, in_second}
 use Rattle.sc_keep.specs.Least.{IsLeastNumber, IsBelow}
 
 -- an element of the list with one more is one of the list, or that one

@@ -5,17 +5,17 @@ use Rattle.std.specs.Option.{unwrap_or}
 use Rattle.std.specs.List.{Contains, remove}
 use Rattle.std.proofs.lemmas.List.Edits.{length-remove}
 use Rattle.std.proofs.lemmas.Option.{slice_get_read, slice_get-get_or}
-use Rattle.sc_data.specs.declared.Literal.{Literal}
-use Rattle.sc_data.specs.declared.Clause.{Clause}
-use Rattle.sc_data.specs.declared.Line.{Line}
-use Rattle.sc_data.specs.declared.Step.TheVariants.{Merge}
-use Rattle.sc_data.specs.Numbering.{numbered, without}
-use Rattle.sc_data.specs.Proof.{IsMerged, clause_of}
+use Rattle.sc_term.specs.declared.Literal.{Literal}
+use Rattle.sc_term.specs.declared.Clause.{Clause}
+use Rattle.sc_term.specs.declared.Line.{Line}
+use Rattle.sc_term.specs.declared.Step.TheVariants.{Merge}
+use Rattle.sc_term.specs.Numbering.{numbered, without}
+use Rattle.sc_term.specs.Proof.{IsMerged, clause_of}
 use Rattle.sc_steps.specs.Derivation.{last_clause}
 use Rattle.sc_steps.proofs.ListLaws.{some_and, mapped}
 use Rattle.sc_steps.proofs.LineLaws.{number_at, number_within, map_some, clause_of_end}
-use Rattle.sc_rules.specs.Simplification.{IsRepeated, MergesOnce}
-use Rattle.sc_rules.proofs.StepLaws.{same_some}
+use Rattle.sc_core_rules.specs.Simplification.{IsRepeated, MergesOnce}
+use Rattle.sc_core_rules.proofs.StepLaws.{same_some}
 use Rattle.sc_keep.specs.Repeated.{IsFirstRepeated}
 
 abbrev RepeatedIn : List Literal → ℕ → Type 0

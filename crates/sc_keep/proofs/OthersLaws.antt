@@ -9,11 +9,11 @@ use Rattle.std.specs.Ordering.{nat_cmp}
 use Rattle.std.proofs.lemmas.List.Kept.{AllPairs-from_increasing}
 use Rattle.std.proofs.lemmas.List.Elements.{Contains-get_or}
 use Rattle.std.proofs.lemmas.Map.Keys.{IsDistinct-cons, IsDistinct-head, IsDistinct-tail, IsDistinct-IsPermutation, IsStrictlyIncreasing-from_distinct}
-use Rattle.sc_data.specs.declared.Numbered.{Numbered}
-use Rattle.sc_rules.specs.Order.{IsBefore, AreInOrder, IsFilter, taken, passed, none}
-use Rattle.sc_rules.specs.Rewriting.{number_of}
-use Rattle.sc_rules.specs.Book.{leaving_out}
-use Rattle.sc_rules.proofs.FilterLaws.{filter_append, filter_within, filter_holds}
+use Rattle.sc_term.specs.declared.Numbered.{Numbered}
+use Rattle.sc_core_rules.specs.Order.{IsBefore, AreInOrder, IsFilter, taken, passed, none}
+use Rattle.sc_core_rules.specs.Rewriting.{number_of}
+use Rattle.sc_core_rules.specs.Book.{leaving_out}
+use Rattle.sc_core_rules.proofs.FilterLaws.{filter_append, filter_within, filter_holds}
 use Rattle.sc_keep.specs.Sweep.{HaveDistinctNumbers, numbers, without_numbers}
 
 -- ---- the numbers of those that are picked are distinct

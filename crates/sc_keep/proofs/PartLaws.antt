@@ -2,17 +2,17 @@
 use Rattle.std.proofs.Common.{◌≡◌, ◌∙◌, sym, ap, subst, refl, ℕ, ◌+◌, ◌<◌, ◌≤◌, List, [], ◌∷◌, length, map, get_or, max, fold, Option, Some, None, Bool, true, false, arith}
 use Rattle.std.specs.Prelude.{MatchOption, ◌↔◌, IfSome, IsSome}
 use Rattle.std.specs.List.{AllByRecursion}
-use Rattle.sc_data.specs.declared.Term.{Term, Var}
-use Rattle.sc_data.specs.declared.Term.TheVariants.{App}
-use Rattle.sc_data.specs.declared.Literal.{Literal}
-use Rattle.sc_data.specs.declared.Clause.{Clause}
-use Rattle.sc_data.specs.declared.Pair.{Pair}
-use Rattle.sc_data.specs.Term.{largest, term_width, term_under}
-use Rattle.sc_data.specs.Clause.{width, literal_width, IsWithinLimits}
-use Rattle.sc_data.specs.Substitution.{Substitution, IsMostGeneralUnifier, Unify, clause_under, literal_under}
-use Rattle.sc_data.specs.JointInstance.{IsJointInstance, apart, renumbered, shift, whole}
-use Rattle.sc_data.proofs.TermLaws.{term_ind, width-Var, width-App}
-use Rattle.sc_data.proofs.TermSteps.{under-Var, under-App}
+use Rattle.sc_term.specs.declared.Term.{Term, Var}
+use Rattle.sc_term.specs.declared.Term.TheVariants.{App}
+use Rattle.sc_term.specs.declared.Literal.{Literal}
+use Rattle.sc_term.specs.declared.Clause.{Clause}
+use Rattle.sc_term.specs.declared.Pair.{Pair}
+use Rattle.sc_term.specs.Term.{largest, term_width, term_under}
+use Rattle.sc_term.specs.Clause.{width, literal_width, IsWithinLimits}
+use Rattle.sc_term.specs.Substitution.{Substitution, IsMostGeneralUnifier, Unify, clause_under, literal_under}
+use Rattle.sc_term.specs.JointInstance.{IsJointInstance, apart, renumbered, shift, whole}
+use Rattle.sc_term.proofs.TermLaws.{term_ind, width-Var, width-App}
+use Rattle.sc_term.proofs.TermSteps.{under-Var, under-App}
 use Rattle.sc_unify.specs.Joint.{AreTermsOf}
 use Rattle.sc_unify.specs.declared.bound.Binding.{Binding}
 use Rattle.sc_unify.specs.Unifiers.{substitution}

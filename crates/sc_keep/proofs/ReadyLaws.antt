@@ -5,16 +5,16 @@ use Rattle.std.proofs.lemmas.Bool.{eqb-true}
 use Rattle.std.proofs.lemmas.Bool.Decides.{Decides-eqb}
 use Rattle.std.proofs.lemmas.List.{get_or-map, length-map}
 use Rattle.std.proofs.lemmas.Map.Made.{AllPairs-from_IsDistinct}
-use Rattle.sc_data.specs.declared.Numbered.{Numbered}
-use Rattle.sc_data.specs.declared.Clause.{Clause}
-use Rattle.sc_data.specs.declared.Line.{Line}
-use Rattle.sc_reading.specs.Problem.{Stated}
-use Rattle.sc_reading.specs.declared.settings.Flags.{Flags}
-use Rattle.sc_reading.specs.declared.settings.Params.{Params}
-use Rattle.sc_rules.specs.declared.fate.Fate.{Fate}
-use Rattle.sc_rules.specs.declared.fate.Processed.{Processed}
-use Rattle.sc_rules.specs.Book.{Book, live, next_number}
-use Rattle.sc_rules.specs.Processing.{with_kept, Keeps, MeetsFate}
+use Rattle.sc_term.specs.declared.Numbered.{Numbered}
+use Rattle.sc_term.specs.declared.Clause.{Clause}
+use Rattle.sc_term.specs.declared.Line.{Line}
+use Rattle.sc_input_rules.specs.Problem.{Stated}
+use Rattle.sc_input_rules.specs.declared.settings.Flags.{Flags}
+use Rattle.sc_input_rules.specs.declared.settings.Params.{Params}
+use Rattle.sc_core_rules.specs.declared.fate.Fate.{Fate}
+use Rattle.sc_core_rules.specs.declared.fate.Processed.{Processed}
+use Rattle.sc_core_rules.specs.Book.{Book, live, next_number}
+use Rattle.sc_core_rules.specs.Processing.{with_kept, Keeps, MeetsFate}
 use Rattle.sc_keep.specs.Dropping.{IsDropped}
 use Rattle.sc_keep.specs.Sweep.{HaveDistinctNumbers, numbers}
 use Rattle.sc_keep.proofs.FateLaws.{kept_meets}

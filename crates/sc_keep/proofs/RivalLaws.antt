@@ -1,9 +1,9 @@
 -- The rival of least number among clauses of which one more is looked at.
 use Rattle.std.proofs.Common.{◌≡◌, ◌≢◌, subst, refl, ◌<◌, List, [], ◌∷◌, ◌++◌, Option, Some, None}
-use Rattle.sc_data.specs.declared.Numbered.{Numbered}
-use Rattle.sc_steps.specs.declared.derivation.Derived.{Derived}
-use Rattle.sc_rules.specs.Conflict.{Conflicts}
-use Rattle.sc_rules.specs.Processing.{IsRival}
+use Rattle.sc_term.specs.declared.Numbered.{Numbered}
+use Rattle.sc_steps.specs.declared.derivations.derivation.Derived.{Derived}
+use Rattle.sc_core_rules.specs.Conflict.{Conflicts}
+use Rattle.sc_core_rules.specs.Processing.{IsRival}
 use Rattle.sc_keep.specs.declared.rival.Rival.{Rival}
 use Rattle.sc_keep.specs.Rivals.{IsBelowRival, IsLeastRival}
 use Rattle.sc_keep.proofs.LeastLaws.{keeps, still_none, takes_least}

@@ -1,9 +1,9 @@
 -- Lines that have a last clause are some.
 use Rattle.std.proofs.Common.{ℕ, ◌+◌, ◌<◌, List, length, arith}
 use Rattle.std.specs.Prelude.{IsSomeAnd}
-use Rattle.sc_data.specs.declared.Clause.{Clause}
-use Rattle.sc_data.specs.declared.Line.{Line}
-use Rattle.sc_data.specs.Numbering.{numbered}
+use Rattle.sc_term.specs.declared.Clause.{Clause}
+use Rattle.sc_term.specs.declared.Line.{Line}
+use Rattle.sc_term.specs.Numbering.{numbered}
 use Rattle.sc_steps.specs.Derivation.{last_clause}
 use Rattle.sc_steps.proofs.ListLaws.{some_and, mapped}
 use Rattle.sc_steps.proofs.LineLaws.{number_within}

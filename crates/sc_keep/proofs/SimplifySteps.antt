@@ -1,16 +1,16 @@
 -- The lines check over the same clauses from step to step, and what the steps give stays within the limits.
 use Rattle.std.proofs.Common.{◌≡◌, ◌∙◌, sym, ap, subst, refl, ℕ, ◌-◌, ◌<◌, ◌≤◌, ◌++◌, Bool, true, List, [], length, get_or, Some}
-use Rattle.sc_data.specs.declared.Clause.{Clause}
-use Rattle.sc_data.specs.declared.Line.{Line}
-use Rattle.sc_data.specs.declared.Numbered.{Numbered}
-use Rattle.sc_data.specs.declared.Step.TheVariants.{Input}
-use Rattle.sc_data.specs.Clause.{IsWithinLimits, weight, depth}
-use Rattle.sc_data.specs.Proof.{AreSteps}
+use Rattle.sc_term.specs.declared.Clause.{Clause}
+use Rattle.sc_term.specs.declared.Line.{Line}
+use Rattle.sc_term.specs.declared.Numbered.{Numbered}
+use Rattle.sc_term.specs.declared.Step.TheVariants.{Input}
+use Rattle.sc_term.specs.Clause.{IsWithinLimits, weight, depth}
+use Rattle.sc_term.specs.Proof.{AreSteps}
 use Rattle.sc_steps.specs.Derivation.{last_clause}
 use Rattle.sc_steps.proofs.LineLaws.{some_so}
-use Rattle.sc_rules.specs.Derivation.{EndsCanonical}
-use Rattle.sc_rules.specs.Order.{With}
-use Rattle.sc_rules.proofs.FilterLaws.{in_first, in_second}
+use Rattle.sc_core_rules.specs.Derivation.{EndsCanonical}
+use Rattle.sc_core_rules.specs.Order.{With}
+use Rattle.sc_core_rules.proofs.FilterLaws.{in_first, in_second}
 use Rattle.sc_demod.specs.Standing.{ChecksWith, KeepsChecking}
 use Rattle.sc_keep.proofs.CanonicalForm.{ends_with_canonical}
 use Rattle.sc_keep.proofs.WithinLaws.{EndsWithin, each_within, canonical_end_within}

@@ -7,17 +7,17 @@ use Rattle.std.proofs.lemmas.List.{append-nil, take_more}
 use Rattle.std.proofs.lemmas.List.Kept.{AllPairs-cons}
 use Rattle.std.proofs.lemmas.List.Elements.{Contains-get_or}
 use Rattle.std.proofs.lemmas.List.Sorted.{Contains-permutation, IsPermutation-sym}
-use Rattle.sc_data.specs.declared.Literal.{Literal}
-use Rattle.sc_data.specs.declared.Clause.{Clause}
-use Rattle.sc_data.specs.declared.Line.{Line}
-use Rattle.sc_data.specs.declared.Numbered.{Numbered}
-use Rattle.sc_data.specs.Numbering.{numbered}
+use Rattle.sc_term.specs.declared.Literal.{Literal}
+use Rattle.sc_term.specs.declared.Clause.{Clause}
+use Rattle.sc_term.specs.declared.Line.{Line}
+use Rattle.sc_term.specs.declared.Numbered.{Numbered}
+use Rattle.sc_term.specs.Numbering.{numbered}
 use Rattle.sc_steps.proofs.ListLaws.{some_and}
 use Rattle.sc_steps.proofs.LineLaws.{some_so}
-use Rattle.sc_rules.specs.Order.{IsFilter, none, taken, passed, Exhausts, ends, goes}
-use Rattle.sc_rules.specs.Simplification.{Removes, IsRemovable, DeletesOnce}
-use Rattle.sc_rules.proofs.FilterLaws.{filter_append, filter_within, filter_holds}
-use Rattle.sc_rules.proofs.OrderLaws.{first_before, tail_pairs}
+use Rattle.sc_core_rules.specs.Order.{IsFilter, none, taken, passed, Exhausts, ends, goes}
+use Rattle.sc_core_rules.specs.Simplification.{Removes, IsRemovable, DeletesOnce}
+use Rattle.sc_core_rules.proofs.FilterLaws.{filter_append, filter_within, filter_holds}
+use Rattle.sc_core_rules.proofs.OrderLaws.{first_before, tail_pairs}
 use Rattle.sc_resolve.specs.ByNumber.{seen}
 use Rattle.sc_resolve.proofs.OrderLaws.{sorted_by_number}
 use Rattle.sc_demod.specs.Standing.{ChecksWith}

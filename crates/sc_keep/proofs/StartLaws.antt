@@ -1,11 +1,11 @@
 -- The clauses with their numbers, and those of one list.
 use Rattle.std.proofs.Common.{◌≡◌, ◌∙◌, sym, ap, subst, ℕ, ◌+◌, ◌<◌, ◌≤◌, List, [], ◌∷◌, ◌++◌, length, take, get_or, arith}
 use Rattle.std.proofs.lemmas.List.{take_more, append-nil, length-take-le, take_all}
-use Rattle.sc_data.specs.declared.Clause.{Clause}
-use Rattle.sc_data.specs.declared.Numbered.{Numbered}
-use Rattle.sc_rules.specs.Order.{IsFilter, taken, passed, none}
-use Rattle.sc_rules.specs.Start.{numbered_from}
-use Rattle.sc_rules.proofs.FilterLaws.{filter_append}
+use Rattle.sc_term.specs.declared.Clause.{Clause}
+use Rattle.sc_term.specs.declared.Numbered.{Numbered}
+use Rattle.sc_core_rules.specs.Order.{IsFilter, taken, passed, none}
+use Rattle.sc_core_rules.specs.Start.{numbered_from}
+use Rattle.sc_core_rules.proofs.FilterLaws.{filter_append}
 
 -- ---- numbers
 

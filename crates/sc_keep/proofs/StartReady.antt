@@ -3,23 +3,23 @@ use Rattle.std.proofs.Common.{◌≡◌, ◌≢◌, ◌∙◌, sym, ap, subst, r
 use Rattle.std.specs.List.{Contains, All}
 use Rattle.std.proofs.lemmas.List.Elements.{All-contains}
 use Rattle.std.proofs.lemmas.Map.Keys.{IsDistinct-cons, IsDistinct-head, IsDistinct-tail}
-use Rattle.sc_data.specs.declared.Clause.{Clause}
-use Rattle.sc_data.specs.declared.Line.{Line}
-use Rattle.sc_data.specs.declared.Numbered.{Numbered}
-use Rattle.sc_data.specs.Numbering.{numbered}
-use Rattle.sc_reading.specs.Problem.{Stated}
-use Rattle.sc_reading.specs.WellFormed.{IsProblem}
-use Rattle.sc_reading.specs.declared.settings.Home.{Home}
-use Rattle.sc_reading.specs.declared.settings.Home.TheVariants.{Usable, Sos, Passive, Demodulators}
-use Rattle.sc_steps.specs.declared.derivation.Derived.{Derived}
+use Rattle.sc_term.specs.declared.Clause.{Clause}
+use Rattle.sc_term.specs.declared.Line.{Line}
+use Rattle.sc_term.specs.declared.Numbered.{Numbered}
+use Rattle.sc_term.specs.Numbering.{numbered}
+use Rattle.sc_input_rules.specs.Problem.{Stated}
+use Rattle.sc_input_rules.specs.WellFormed.{IsProblem}
+use Rattle.sc_input_rules.specs.declared.settings.Home.{Home}
+use Rattle.sc_input_rules.specs.declared.settings.Home.TheVariants.{Usable, Sos, Passive, Demodulators}
+use Rattle.sc_steps.specs.declared.derivations.derivation.Derived.{Derived}
 use Rattle.sc_steps.proofs.LineLaws.{number_within}
-use Rattle.sc_rules.specs.Order.{IsFilter, none, taken, passed}
-use Rattle.sc_rules.specs.Book.{Book, live, next_number, with_derived}
-use Rattle.sc_rules.specs.Start.{Starts, numbered_from, input_clauses, IsAtHome}
-use Rattle.sc_rules.proofs.FilterLaws.{filter_within, in_either}
-use Rattle.sc_rules.proofs.RunLaws.{input_stands}
-use Rattle.sc_rules.proofs.SoundLaws.{each}
-use Rattle.sc_rules.proofs.SoundProcessing.{where_either}
+use Rattle.sc_core_rules.specs.Order.{IsFilter, none, taken, passed}
+use Rattle.sc_core_rules.specs.Book.{Book, live, next_number, with_derived}
+use Rattle.sc_core_rules.specs.Start.{Starts, numbered_from, input_clauses, IsAtHome}
+use Rattle.sc_core_rules.proofs.FilterLaws.{filter_within, in_either}
+use Rattle.sc_core_rules.proofs.RunLaws.{input_stands}
+use Rattle.sc_core_rules.proofs.SoundLaws.{each}
+use Rattle.sc_core_rules.proofs.SoundProcessing.{where_either}
 use Rattle.sc_keep.specs.declared.lists.Lists.{Lists}
 use Rattle.sc_keep.specs.Lists.{AreReady, book_of}
 use Rattle.sc_keep.specs.Rivals.{IsFit}

@@ -1,14 +1,14 @@
 -- The start, put together.
 use Rattle.std.proofs.Common.{◌≡◌, ◌∙◌, sym, ap, subst, ℕ, ◌+◌, ◌-◌, inl, inr, List, [], ◌∷◌, Option, Some, None, All, length}
 use Rattle.std.proofs.lemmas.List.Elements.{All-nil, All-cons, All-head, All-tail}
-use Rattle.sc_data.specs.declared.Clause.{Clause}
-use Rattle.sc_data.specs.declared.Numbered.{Numbered}
-use Rattle.sc_data.specs.Numbering.{numbered}
-use Rattle.sc_reading.specs.declared.settings.Home.{Home}
-use Rattle.sc_reading.specs.Problem.{Stated}
-use Rattle.sc_rules.specs.Order.{IsFilter}
-use Rattle.sc_steps.specs.declared.derivation.Derived.{Derived}
-use Rattle.sc_rules.specs.Start.{numbered_from, input_clauses, AreAtHome, EndsWith, IsAtHome, OpensBook, Starts}
+use Rattle.sc_term.specs.declared.Clause.{Clause}
+use Rattle.sc_term.specs.declared.Numbered.{Numbered}
+use Rattle.sc_term.specs.Numbering.{numbered}
+use Rattle.sc_input_rules.specs.declared.settings.Home.{Home}
+use Rattle.sc_input_rules.specs.Problem.{Stated}
+use Rattle.sc_core_rules.specs.Order.{IsFilter}
+use Rattle.sc_steps.specs.declared.derivations.derivation.Derived.{Derived}
+use Rattle.sc_core_rules.specs.Start.{numbered_from, input_clauses, AreAtHome, EndsWith, IsAtHome, OpensBook, Starts}
 use Rattle.sc_keep.specs.Lists.{book_of}
 use Rattle.sc_keep.specs.Rivals.{IsFit, IsFitClause}
 use Rattle.sc_keep.specs.Start.{EndsBy, HasInput, IsFirstEnding}

@@ -3,22 +3,22 @@ use Rattle.std.proofs.Common.{◌≡◌, ◌≢◌, ◌∙◌, sym, ap, subst, r
 use Rattle.std.specs.List.{Contains, All, AllByRecursion, list_any}
 use Rattle.std.proofs.lemmas.List.{map-append}
 use Rattle.std.proofs.lemmas.List.Elements.{All-filter, All-contains, All-append, Contains-get_or}
-use Rattle.sc_rules.specs.Turn.{with_given}
-use Rattle.sc_rules.proofs.OrderLaws.{first_or_later}
-use Rattle.sc_rules.proofs.FilterLaws.{in_either, in_first, in_second}
-use Rattle.sc_rules.proofs.ProcessLaws.{Becomes}
-use Rattle.sc_rules.proofs.SoundLaws.{filter_sub}
+use Rattle.sc_core_rules.specs.Turn.{with_given}
+use Rattle.sc_term.proofs.ContainsLaws.{first_or_later}
+use Rattle.sc_core_rules.proofs.FilterLaws.{in_either, in_first, in_second}
+use Rattle.sc_core_rules.proofs.ProcessLaws.{Becomes}
+use Rattle.sc_core_rules.proofs.SoundLaws.{filter_sub}
 use Rattle.sc_keep.proofs.OthersLaws.{flips}
 use Rattle.std.proofs.lemmas.Map.Keys.{IsDistinct-cons, IsDistinct-head, IsDistinct-tail}
-use Rattle.sc_data.specs.declared.Numbered.{Numbered}
-use Rattle.sc_data.specs.declared.Clause.{Clause}
-use Rattle.sc_data.specs.declared.Line.{Line}
-use Rattle.sc_data.specs.Clause.{IsCanonical, IsWithinLimits}
-use Rattle.sc_reading.specs.Problem.{Stated}
-use Rattle.sc_steps.specs.declared.derivation.Derived.{Derived}
-use Rattle.sc_rules.specs.declared.fate.Processed.{Processed}
-use Rattle.sc_rules.specs.Book.{Book, leaving_out, live, next_number, with_deleted, with_derived}
-use Rattle.sc_rules.specs.Processing.{with_kept, with_demodulator, Keeps, Sweeps, MeetsFate}
+use Rattle.sc_term.specs.declared.Numbered.{Numbered}
+use Rattle.sc_term.specs.declared.Clause.{Clause}
+use Rattle.sc_term.specs.declared.Line.{Line}
+use Rattle.sc_term.specs.Clause.{IsCanonical, IsWithinLimits}
+use Rattle.sc_input_rules.specs.Problem.{Stated}
+use Rattle.sc_steps.specs.declared.derivations.derivation.Derived.{Derived}
+use Rattle.sc_core_rules.specs.declared.fate.Processed.{Processed}
+use Rattle.sc_core_rules.specs.Book.{Book, leaving_out, live, next_number, with_deleted, with_derived}
+use Rattle.sc_core_rules.specs.Processing.{with_kept, with_demodulator, Keeps, Sweeps, MeetsFate}
 use Rattle.sc_keep.specs.declared.lists.Lists.{Lists}
 use Rattle.sc_keep.specs.Lists.{AreReady, book_of}
 use Rattle.sc_keep.specs.Rivals.{IsFit}

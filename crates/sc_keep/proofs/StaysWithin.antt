@@ -2,27 +2,27 @@
 use Rattle.std.proofs.Common.{◌≡◌, sym, subst, ℕ, ◌≤◌, inl, inr, List, [], ◌∷◌, sum, map, Option, arith}
 use Rattle.std.specs.List.{All, AllByRecursion, Contains}
 use Rattle.std.proofs.lemmas.List.Elements.{All-append, All-cons, All-nil}
-use Rattle.sc_data.specs.declared.Clause.{Clause}
-use Rattle.sc_data.specs.declared.Line.{Line}
-use Rattle.sc_data.specs.declared.Literal.{Literal}
-use Rattle.sc_data.specs.declared.Numbered.{Numbered}
-use Rattle.sc_data.specs.Term.{largest}
-use Rattle.sc_data.specs.Clause.{IsWithinLimits, literal_depth, literal_weight}
-use Rattle.sc_reading.specs.Problem.{Stated}
-use Rattle.sc_reading.specs.WellFormed.{IsInput, IsProblem}
+use Rattle.sc_term.specs.declared.Clause.{Clause}
+use Rattle.sc_term.specs.declared.Line.{Line}
+use Rattle.sc_term.specs.declared.Literal.{Literal}
+use Rattle.sc_term.specs.declared.Numbered.{Numbered}
+use Rattle.sc_term.specs.Term.{largest}
+use Rattle.sc_term.specs.Clause.{IsWithinLimits, literal_depth, literal_weight}
+use Rattle.sc_input_rules.specs.Problem.{Stated}
+use Rattle.sc_input_rules.specs.WellFormed.{IsInput, IsProblem}
 use Rattle.sc_term.specs.declared.symbol.Symbol.{Symbol}
-use Rattle.sc_steps.specs.declared.derivation.Derived.{Derived}
-use Rattle.sc_rules.specs.declared.fate.Processed.{Processed}
-use Rattle.sc_rules.specs.Book.{Book, IsSound, live, next_number, numbered_clauses, with_derived}
-use Rattle.sc_rules.specs.Conflict.{Conflicts}
-use Rattle.sc_rules.specs.Processing.{with_kept, Keeps, Sweeps, MeetsFate}
-use Rattle.sc_rules.specs.Start.{Starts, OpensBook, EndsWith, input_clauses}
-use Rattle.sc_rules.proofs.ConflictLaws.{conflict_empty}
-use Rattle.sc_rules.proofs.DerivedBook.{all_stand}
-use Rattle.sc_rules.proofs.ProcessLaws.{Becomes}
-use Rattle.sc_rules.proofs.RunLaws.{input_stands}
-use Rattle.sc_rules.proofs.SoundLaws.{grown, kept_sound, kept_stands}
-use Rattle.sc_rules.proofs.SoundProcessing.{where_either}
+use Rattle.sc_steps.specs.declared.derivations.derivation.Derived.{Derived}
+use Rattle.sc_core_rules.specs.declared.fate.Processed.{Processed}
+use Rattle.sc_core_rules.specs.Book.{Book, IsSound, live, next_number, numbered_clauses, with_derived}
+use Rattle.sc_core_rules.specs.Conflict.{Conflicts}
+use Rattle.sc_core_rules.specs.Processing.{with_kept, Keeps, Sweeps, MeetsFate}
+use Rattle.sc_core_rules.specs.Start.{Starts, OpensBook, EndsWith, input_clauses}
+use Rattle.sc_core_rules.proofs.ConflictLaws.{conflict_empty}
+use Rattle.sc_core_rules.proofs.DerivedBook.{all_stand}
+use Rattle.sc_core_rules.proofs.ProcessLaws.{Becomes}
+use Rattle.sc_core_rules.proofs.RunLaws.{input_stands}
+use Rattle.sc_core_rules.proofs.SoundLaws.{grown, kept_sound, kept_stands}
+use Rattle.sc_core_rules.proofs.SoundProcessing.{where_either}
 use Rattle.sc_keep.specs.State.{AreAllWithin, empty_book}
 
 abbrev Within : Clause → Type 0

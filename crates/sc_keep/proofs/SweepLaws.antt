@@ -3,9 +3,9 @@ use Rattle.std.proofs.Common.{◌≡◌, ◌∙◌, sym, ap, subst, refl, ℕ, z
 use Rattle.std.proofs.lemmas.List.{map-append}
 use Rattle.std.specs.List.{remove, list_any}
 use Rattle.std.proofs.lemmas.List.{take_more, append-nil, length-take-le, take_all, drop_all}
-use Rattle.sc_data.specs.declared.Numbered.{Numbered}
-use Rattle.sc_rules.specs.Order.{IsFilter, taken, passed, none}
-use Rattle.sc_rules.proofs.FilterLaws.{filter_append}
+use Rattle.sc_term.specs.declared.Numbered.{Numbered}
+use Rattle.sc_core_rules.specs.Order.{IsFilter, taken, passed, none}
+use Rattle.sc_core_rules.proofs.FilterLaws.{filter_append}
 use Rattle.sc_keep.specs.Sweep.{numbers, without_numbers}
 
 -- ---- what is picked

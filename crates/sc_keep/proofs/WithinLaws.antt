@@ -3,22 +3,22 @@ use Rattle.std.proofs.Common.{◌≡◌, ◌∙◌, sym, ap, subst, refl, ℕ, z
 use Rattle.std.specs.Prelude.{IsSomeAnd}
 use Rattle.std.specs.List.{fold, position_or_len, remove}
 use Rattle.std.proofs.lemmas.List.Sums.{sum_by-cons}
-use Rattle.sc_data.specs.declared.Literal.{Literal}
-use Rattle.sc_data.specs.declared.Clause.{Clause}
-use Rattle.sc_data.specs.declared.Line.{Line}
-use Rattle.sc_data.specs.declared.Step.TheVariants.{Merge}
-use Rattle.sc_data.specs.Term.{largest}
-use Rattle.sc_data.specs.Clause.{IsWithinLimits, firsts, literal_depth, literal_weight, variables}
-use Rattle.sc_data.specs.JointInstance.{canonical, renumbering, whole}
-use Rattle.sc_data.specs.Numbering.{numbered}
-use Rattle.sc_data.specs.Proof.{IsMerged, clause_of}
+use Rattle.sc_term.specs.declared.Literal.{Literal}
+use Rattle.sc_term.specs.declared.Clause.{Clause}
+use Rattle.sc_term.specs.declared.Line.{Line}
+use Rattle.sc_term.specs.declared.Step.TheVariants.{Merge}
+use Rattle.sc_term.specs.Term.{largest}
+use Rattle.sc_term.specs.Clause.{IsWithinLimits, firsts, literal_depth, literal_weight, variables}
+use Rattle.sc_term.specs.JointInstance.{canonical, renumbering, whole}
+use Rattle.sc_term.specs.Numbering.{numbered}
+use Rattle.sc_term.specs.Proof.{IsMerged, clause_of}
 use Rattle.sc_steps.specs.Derivation.{last_clause}
 use Rattle.sc_steps.proofs.ListLaws.{some_and}
 use Rattle.sc_steps.proofs.LineLaws.{clause_of_end, some_so}
 use Rattle.sc_unify.proofs.JointLaws.{limits_kept}
-use Rattle.sc_rules.specs.Order.{Exhausts, ends, goes}
-use Rattle.sc_rules.specs.Derivation.{EndsCanonical}
-use Rattle.sc_rules.specs.Simplification.{MergesOnce}
+use Rattle.sc_core_rules.specs.Order.{Exhausts, ends, goes}
+use Rattle.sc_core_rules.specs.Derivation.{EndsCanonical}
+use Rattle.sc_core_rules.specs.Simplification.{MergesOnce}
 use Rattle.sc_keep.proofs.CanonicalForm.{ends_with}
 
 -- the last clause is within the limits

@@ -1,14 +1,14 @@
 -- The line of a clause's part in a joint instance.
 use Rattle.std.specs.Prelude.{◌≡◌, ◌≢◌, ◌≤◌, ◌+◌, ℕ, List, Some, length}
-use Rattle.sc_data.specs.declared.Term.{Term}
-use Rattle.sc_data.specs.declared.Clause.{Clause}
-use Rattle.sc_data.specs.declared.Line.{Line}
-use Rattle.sc_data.specs.declared.Step.TheVariants.{Instance}
-use Rattle.sc_data.specs.declared.Numbered.{Numbered}
-use Rattle.sc_data.specs.Clause.{instance}
-use Rattle.sc_data.specs.Proof.{clause_of}
+use Rattle.sc_term.specs.declared.Term.{Term}
+use Rattle.sc_term.specs.declared.Clause.{Clause}
+use Rattle.sc_term.specs.declared.Line.{Line}
+use Rattle.sc_term.specs.declared.Step.TheVariants.{Instance}
+use Rattle.sc_term.specs.declared.Numbered.{Numbered}
+use Rattle.sc_term.specs.Clause.{instance}
+use Rattle.sc_term.specs.Proof.{clause_of}
 use Rattle.sc_steps.specs.Derivation.{IsInputAt}
-use Rattle.sc_rules.specs.Derivation.{AddsPart}
+use Rattle.sc_core_rules.specs.Derivation.{AddsPart}
 
 -- the line has another clause, the instance of the clause of line `of` by the terms
 pub record IsPartLine (c : Clause) (terms : List Term) (of : ℕ) (line : Line) : Type 0 where

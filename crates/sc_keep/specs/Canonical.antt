@@ -1,12 +1,12 @@
 -- The terms and the line that take a clause to its canonical form.
 use Rattle.std.specs.Prelude.{◌≡◌, ℕ, zero, suc, List, [], ◌∷◌, ◌++◌, nat_eq, nat_lt, length, if◌then◌else◌}
 use Rattle.std.specs.List.{position_or_len}
-use Rattle.sc_data.specs.declared.Term.{Term, Var}
-use Rattle.sc_data.specs.declared.Clause.{Clause}
-use Rattle.sc_data.specs.declared.Line.{Line}
-use Rattle.sc_data.specs.declared.Step.TheVariants.{Instance}
-use Rattle.sc_data.specs.JointInstance.{canonical}
-use Rattle.sc_rules.specs.Derivation.{AreTermsTo}
+use Rattle.sc_term.specs.declared.Term.{Term, Var}
+use Rattle.sc_term.specs.declared.Clause.{Clause}
+use Rattle.sc_term.specs.declared.Line.{Line}
+use Rattle.sc_term.specs.declared.Step.TheVariants.{Instance}
+use Rattle.sc_term.specs.JointInstance.{canonical}
+use Rattle.sc_core_rules.specs.Derivation.{AreTermsTo}
 
 -- the place of the number, and 0 where it isn't there
 abbrev pub place_or_first : List ℕ → ℕ → ℕ

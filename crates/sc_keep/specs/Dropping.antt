@@ -1,15 +1,15 @@
 -- Why a conclusion is dropped.
 use Rattle.std.specs.Prelude.{◌≡◌, ◌<◌, ℕ, Bool, true, List, Option, Some, None, Contains, length}
-use Rattle.sc_data.specs.declared.Clause.{Clause}
-use Rattle.sc_data.specs.declared.Numbered.{Numbered}
-use Rattle.sc_data.specs.Clause.{weight}
-use Rattle.sc_reading.specs.declared.settings.Flags.{Flags}
-use Rattle.sc_reading.specs.declared.settings.Params.{Params}
-use Rattle.sc_subsume.specs.Subsumption.{Subsumes, IsTautology}
-use Rattle.sc_rules.specs.declared.fate.Fate.{Fate}
-use Rattle.sc_rules.specs.declared.fate.Fate.TheVariants.{Kept, Empty, Taut, Heavy, Long, Subsumed}
-use Rattle.sc_rules.specs.Rewriting.{number_of}
-use Rattle.sc_rules.specs.Order.{IsLeast}
+use Rattle.sc_term.specs.declared.Clause.{Clause}
+use Rattle.sc_term.specs.declared.Numbered.{Numbered}
+use Rattle.sc_term.specs.Clause.{weight}
+use Rattle.sc_input_rules.specs.declared.settings.Flags.{Flags}
+use Rattle.sc_input_rules.specs.declared.settings.Params.{Params}
+use Rattle.sc_term.specs.Subsumption.{Subsumes, IsTautology}
+use Rattle.sc_core_rules.specs.declared.fate.Fate.{Fate}
+use Rattle.sc_core_rules.specs.declared.fate.Fate.TheVariants.{Kept, Empty, Taut, Heavy, Long, Subsumed}
+use Rattle.sc_core_rules.specs.Rewriting.{number_of}
+use Rattle.sc_core_rules.specs.Order.{IsLeast}
 
 -- subsumption is asked for, and a live clause subsumes this one
 abbrev pub IsSubsumed : Bool → List Numbered → Clause → Type 0

@@ -1,8 +1,8 @@
 -- The least number of a clause with a property, as far as the clauses were looked at.
 use Rattle.std.specs.Prelude.{◌≡◌, ◌<◌, ℕ, List, Option, Some, None, Contains}
-use Rattle.sc_data.specs.declared.Numbered.{Numbered}
-use Rattle.sc_rules.specs.Rewriting.{number_of}
-use Rattle.sc_rules.specs.Order.{IsLeast}
+use Rattle.sc_term.specs.declared.Numbered.{Numbered}
+use Rattle.sc_core_rules.specs.Rewriting.{number_of}
+use Rattle.sc_core_rules.specs.Order.{IsLeast}
 
 -- none of the clauses has the property, or the number is that of the least that has it
 abbrev pub IsLeastNumber : (Numbered → Type 0) → List Numbered → Option ℕ → Type 0

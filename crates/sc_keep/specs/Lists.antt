@@ -1,7 +1,7 @@
 -- The lists as the book that they make.
 use Rattle.std.specs.Prelude.{◌<◌, ℕ, All}
-use Rattle.sc_data.specs.declared.Numbered.{Numbered}
-use Rattle.sc_rules.specs.Book.{Book, live}
+use Rattle.sc_term.specs.declared.Numbered.{Numbered}
+use Rattle.sc_core_rules.specs.Book.{Book, live}
 use Rattle.sc_keep.specs.declared.lists.Lists.{Lists}
 use Rattle.sc_keep.specs.Rivals.{IsFit}
 use Rattle.sc_keep.specs.Sweep.{HaveDistinctNumbers}

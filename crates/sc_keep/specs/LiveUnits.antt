@@ -1,7 +1,7 @@
 -- The live clauses of one literal.
 use Rattle.std.specs.Prelude.{◌≡◌, ◌<◌, List, [], ◌∷◌, ◌++◌, length, Contains, AllPairs}
-use Rattle.sc_data.specs.declared.Numbered.{Numbered}
-use Rattle.sc_rules.specs.Order.{Where}
+use Rattle.sc_term.specs.declared.Numbered.{Numbered}
+use Rattle.sc_core_rules.specs.Order.{Where}
 
 -- the clause has one literal
 abbrev pub HasOneLiteral : Numbered → Type 0

@@ -1,12 +1,12 @@
 -- The parts of clauses in a joint instance, and the pair of two units.
 use Rattle.std.specs.Prelude.{ℕ, ◌+◌, List, [], ◌∷◌}
-use Rattle.sc_data.specs.declared.Term.{Term, Var}
-use Rattle.sc_data.specs.declared.Literal.{Literal}
-use Rattle.sc_data.specs.declared.Clause.{Clause}
-use Rattle.sc_data.specs.declared.Pair.{Pair}
-use Rattle.sc_data.specs.Clause.{IsWithinLimits, width}
-use Rattle.sc_data.specs.Substitution.{literal_under}
-use Rattle.sc_data.specs.JointInstance.{IsJointInstance, whole}
+use Rattle.sc_term.specs.declared.Term.{Term, Var}
+use Rattle.sc_term.specs.declared.Literal.{Literal}
+use Rattle.sc_term.specs.declared.Clause.{Clause}
+use Rattle.sc_term.specs.declared.Pair.{Pair}
+use Rattle.sc_term.specs.Clause.{IsWithinLimits, width}
+use Rattle.sc_term.specs.Substitution.{literal_under}
+use Rattle.sc_term.specs.JointInstance.{IsJointInstance, whole}
 use Rattle.sc_unify.specs.Joint.{AreTermsOf}
 
 -- no joint instance is within the limits

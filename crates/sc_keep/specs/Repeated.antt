@@ -1,7 +1,7 @@
 -- The first literal that equals an earlier one.
 use Rattle.std.specs.Prelude.{◌<◌, ◌≤◌, ℕ, List, length}
-use Rattle.sc_data.specs.declared.Literal.{Literal}
-use Rattle.sc_rules.specs.Simplification.{IsRepeated}
+use Rattle.sc_term.specs.declared.Literal.{Literal}
+use Rattle.sc_core_rules.specs.Simplification.{IsRepeated}
 
 pub record IsFirstRepeated (literals : List Literal) (a : ℕ) : Type 0 where
   pub there : 0 < a

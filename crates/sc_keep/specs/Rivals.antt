@@ -1,12 +1,12 @@
 -- The rival of least number among clauses, as far as they were looked at.
 use Rattle.std.specs.Prelude.{◌≡◌, ◌<◌, ℕ, List, Option, Some, None, Contains}
-use Rattle.sc_data.specs.declared.Clause.{Clause}
-use Rattle.sc_data.specs.declared.Numbered.{Numbered}
-use Rattle.sc_data.specs.Clause.{IsCanonical, IsWithinLimits}
-use Rattle.sc_rules.specs.Rewriting.{number_of}
-use Rattle.sc_rules.specs.Order.{IsLeast}
-use Rattle.sc_rules.specs.Conflict.{Conflicts}
-use Rattle.sc_rules.specs.Processing.{IsRival}
+use Rattle.sc_term.specs.declared.Clause.{Clause}
+use Rattle.sc_term.specs.declared.Numbered.{Numbered}
+use Rattle.sc_term.specs.Clause.{IsCanonical, IsWithinLimits}
+use Rattle.sc_core_rules.specs.Rewriting.{number_of}
+use Rattle.sc_core_rules.specs.Order.{IsLeast}
+use Rattle.sc_core_rules.specs.Conflict.{Conflicts}
+use Rattle.sc_core_rules.specs.Processing.{IsRival}
 use Rattle.sc_keep.specs.declared.rival.Rival.{Rival}
 
 -- the clause is canonical, and within the limits

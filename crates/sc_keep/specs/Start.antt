@@ -1,13 +1,13 @@
 -- The earliest rival of a clause and the first clause that ends the start, as far as clauses were looked at.
 use Rattle.std.specs.Prelude.{◌≡◌, ◌<◌, ℕ, List, [], Option, Some, None, Contains}
-use Rattle.sc_data.specs.declared.Numbered.{Numbered}
-use Rattle.sc_reading.specs.declared.settings.Home.{Home}
-use Rattle.sc_reading.specs.Problem.{Stated}
-use Rattle.sc_steps.specs.declared.derivation.Derived.{Derived}
-use Rattle.sc_rules.specs.Rewriting.{number_of}
-use Rattle.sc_rules.specs.Order.{IsLeast}
-use Rattle.sc_rules.specs.Conflict.{Conflicts}
-use Rattle.sc_rules.specs.Start.{input_clauses, EndsStart, IsEarlierRival}
+use Rattle.sc_term.specs.declared.Numbered.{Numbered}
+use Rattle.sc_input_rules.specs.declared.settings.Home.{Home}
+use Rattle.sc_input_rules.specs.Problem.{Stated}
+use Rattle.sc_steps.specs.declared.derivations.derivation.Derived.{Derived}
+use Rattle.sc_core_rules.specs.Rewriting.{number_of}
+use Rattle.sc_core_rules.specs.Order.{IsLeast}
+use Rattle.sc_core_rules.specs.Conflict.{Conflicts}
+use Rattle.sc_core_rules.specs.Start.{input_clauses, EndsStart, IsEarlierRival}
 use Rattle.sc_keep.specs.declared.rival.Rival.{Rival}
 use Rattle.sc_keep.specs.declared.start.Ending.{Ending}
 

@@ -1,7 +1,7 @@
 -- What ends the start.
 use Rattle.std.specs.Prelude.{◌≡◌, ℕ, Option, Some, None}
-use Rattle.sc_steps.specs.declared.derivation.Derived.{Derived}
-use Rattle.sc_rules.specs.Book.{with_derived}
+use Rattle.sc_steps.specs.declared.derivations.derivation.Derived.{Derived}
+use Rattle.sc_core_rules.specs.Book.{with_derived}
 use Rattle.sc_keep.specs.Lists.{book_of}
 use Rattle.sc_keep.specs.declared.start.Ending.{Ending}
 use Rattle.sc_keep.specs.declared.start.Started.{Started}

@@ -1,14 +1,14 @@
 -- What the prover's book is seen as, and what it keeps.
 use Rattle.std.specs.Prelude.{All, Bool, true, List, ◌≡◌, []}
-use Rattle.sc_data.specs.declared.Clause.{Clause}
-use Rattle.sc_data.specs.Clause.{IsWithinLimits}
+use Rattle.sc_term.specs.declared.Clause.{Clause}
+use Rattle.sc_term.specs.Clause.{IsWithinLimits}
 use Rattle.sc_term.specs.declared.symbol.Symbol.{Symbol}
-use Rattle.sc_reading.specs.Problem.{Stated}
-use Rattle.sc_reading.specs.WellFormed.{IsProblem}
-use Rattle.sc_reading.specs.declared.settings.Flags.{Flags}
-use Rattle.sc_reading.specs.declared.settings.Params.{Params}
-use Rattle.sc_reading.specs.declared.settings.Home.{Home}
-use Rattle.sc_rules.specs.Book.{Book, IsDerived, IsSound, next_number, numbered_clauses}
+use Rattle.sc_input_rules.specs.Problem.{Stated}
+use Rattle.sc_input_rules.specs.WellFormed.{IsProblem}
+use Rattle.sc_input_rules.specs.declared.settings.Flags.{Flags}
+use Rattle.sc_input_rules.specs.declared.settings.Params.{Params}
+use Rattle.sc_input_rules.specs.declared.settings.Home.{Home}
+use Rattle.sc_core_rules.specs.Book.{Book, IsDerived, IsSound, next_number, numbered_clauses}
 use Rattle.sc_keep.specs.declared.lists.Lists.{Lists}
 use Rattle.sc_keep.specs.Lists.{AreReady, book_of}
 

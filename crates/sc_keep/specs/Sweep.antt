@@ -1,14 +1,14 @@
 -- The clauses that a new one subsumes or rewrites, lists without the clauses of given numbers, and what is deleted.
 use Rattle.std.specs.Prelude.{◌≡◌, ◌≢◌, ℕ, Bool, true, List, [], map, filter, not, nat_eq}
 use Rattle.std.specs.List.{list_any, IsDistinct}
-use Rattle.sc_data.specs.declared.Clause.{Clause}
-use Rattle.sc_data.specs.declared.Numbered.{Numbered}
-use Rattle.sc_subsume.specs.Subsumption.{Subsumes}
-use Rattle.sc_reading.specs.declared.settings.Flags.{Flags}
-use Rattle.sc_rules.specs.Order.{Where, With}
-use Rattle.sc_rules.specs.Rewriting.{HasRedex, BecomesDemodulator}
-use Rattle.sc_rules.specs.Book.{Book, with_deleted}
-use Rattle.sc_rules.specs.Processing.{AreOthers, with_demodulator}
+use Rattle.sc_term.specs.declared.Clause.{Clause}
+use Rattle.sc_term.specs.declared.Numbered.{Numbered}
+use Rattle.sc_term.specs.Subsumption.{Subsumes}
+use Rattle.sc_input_rules.specs.declared.settings.Flags.{Flags}
+use Rattle.sc_core_rules.specs.Order.{Where, With}
+use Rattle.sc_core_rules.specs.Rewriting.{HasRedex, BecomesDemodulator}
+use Rattle.sc_core_rules.specs.Book.{Book, with_deleted}
+use Rattle.sc_core_rules.specs.Processing.{AreOthers, with_demodulator}
 
 -- p is another clause than n, which subsumes it
 abbrev pub IsOtherSubsumed : Numbered → Numbered → Type 0

@@ -1,17 +1,15 @@
 //! The lines of a clause's part in a joint instance.
 
 ghost use Rattle.std.specs.Prelude.{◌≡◌, ◌≢◌, ◌<◌, ◌+◌, ◌^◌, ℕ, length, IfOk, MatchOption};
-ghost use Rattle.sc_data.specs.Clause as spec;
+ghost use Rattle.sc_term.specs.Clause as spec;
 ghost use Rattle.sc_steps.specs.Derivation.{IsInputAt};
 ghost use Rattle.sc_keep.specs.Adding.{AddedPart, IsPartLine};
 
-use sc_data::{Line, Numbered, Step, Term};
-use sc_term::{Mem, copy, instance, same};
-use sqlite_items::Items;
+use sc_term::{Line, List, Mem, Numbered, Step, Term, copy, instance, same};
 use std::alloc::Global;
 
 /// The line by which the clause of line `of` becomes its instance by the terms, where that is another clause.
-fn part_line(alloc: Global, p: &Numbered, terms: Items<Term>, of: u32) -> Mem<Option<Line>>
+fn part_line(alloc: Global, p: &Numbered, terms: List<Term>, of: u32) -> Mem<Option<Line>>
     requires width { length terms ≡ spec.width p.now.clause }
     requires within { spec.IsWithinLimits (spec.instance terms p.now.clause) }
     ensures { IfOk result (λ found. MatchOption found (spec.instance terms p.now.clause ≡ p.now.clause)
@@ -33,12 +31,7 @@ fn part_line(alloc: Global, p: &Numbered, terms: Items<Term>, of: u32) -> Mem<Op
 }
 
 /// Adds the lines of the clause's part, which the terms give. The number of the part's line.
-pub fn add_part(
-    alloc: Global,
-    lines: &mut Items<Line>,
-    p: &Numbered,
-    terms: Items<Term>,
-) -> Mem<u32>
+pub fn add_part(alloc: Global, lines: &mut List<Line>, p: &Numbered, terms: List<Term>) -> Mem<u32>
     requires few { length lines.old + 2 < 2 ^ 32 }
     requires width { length terms ≡ spec.width p.now.clause }
     requires within { spec.IsWithinLimits (spec.instance terms p.now.clause) }

@@ -1,18 +1,18 @@
 //! The book: the clauses that the prover keeps.
 
 ghost use Rattle.std.specs.Prelude.{◌≡◌, ◌≢◌, ◌<◌, ◌≤◌, ◌+◌, ◌-◌, ◌++◌, ◌^◌, ℕ, [], true, false, min, All, AllPairs, IfOk, OnOk, OnErr, IsSomeAnd, Contains, Some, length};
-ghost use Rattle.sc_data.specs.Clause.{IsCanonical, IsWithinLimits};
-ghost use Rattle.sc_data.specs.Numbering.{numbered};
-ghost use Rattle.sc_data.specs.Proof.{AreSteps, IsProof};
-ghost use Rattle.sc_data.specs.declared.Clause.{Clause as AClause};
-ghost use Rattle.sc_data.specs.declared.Numbered.{Numbered as ANumbered};
+ghost use Rattle.sc_term.specs.Clause.{IsCanonical, IsWithinLimits};
+ghost use Rattle.sc_term.specs.Numbering.{numbered};
+ghost use Rattle.sc_term.specs.Proof.{AreSteps, IsProof};
+ghost use Rattle.sc_term.specs.declared.Clause.{Clause as AClause};
+ghost use Rattle.sc_term.specs.declared.Numbered.{Numbered as ANumbered};
 ghost use Rattle.sc_steps.specs.Derivation.{all_clauses};
 ghost use Rattle.sc_steps.specs.Splice.{IsSplice};
-ghost use Rattle.sc_reading.specs.WellFormed.{IsProblem};
-ghost use Rattle.sc_rules.specs.Book.{IsDerived, IsSound, next_number, numbered_clauses};
-ghost use Rattle.sc_rules.specs.Processing.{Processes};
-ghost use Rattle.sc_rules.specs.Turn.{with_given};
-ghost use Rattle.sc_rules.specs.Start.{Starts};
+ghost use Rattle.sc_input_rules.specs.WellFormed.{IsProblem};
+ghost use Rattle.sc_core_rules.specs.Book.{IsDerived, IsSound, next_number, numbered_clauses};
+ghost use Rattle.sc_core_rules.specs.Processing.{Processes};
+ghost use Rattle.sc_core_rules.specs.Turn.{with_given};
+ghost use Rattle.sc_core_rules.specs.Start.{Starts};
 ghost use Rattle.sc_keep.specs.State.{empty_book};
 ghost use Rattle.sc_keep.specs.Sweep.{HaveDistinctNumbers};
 
@@ -21,14 +21,11 @@ use crate::fate::process_lines;
 use crate::given::give;
 use crate::lists::Lists;
 use crate::start::start_lists;
-use sc_data::{Clause, Line, Numbered};
+use sc_core_rules::{KeptRow, Processed};
 use sc_demod::Demods;
-use sc_problem::Problem;
-use sc_reading::{Flags, Home, Params};
-use sc_rules::{KeptRow, Processed};
+use sc_input_rules::{Flags, Home, Params, Problem};
 use sc_steps::{Derived, Made, splice};
-use sc_term::{Mem, Symbol};
-use sqlite_items::Items;
+use sc_term::{Clause, Line, List, Mem, Numbered, Symbol};
 use std::alloc::Global;
 use std::marker::Model;
 
@@ -52,9 +49,9 @@ fn clause_at<'a>(inputs: &'a [Clause], derived: &'a [Derived], n: u32) -> &'a Cl
 #[derive(Drop)]
 pub struct Book {
     alloc: Global,
-    symbols: Items<Symbol>,
-    inputs: Items<Clause>,
-    homes: Items<Home>,
+    symbols: List<Symbol>,
+    inputs: List<Clause>,
+    homes: List<Home>,
     flags: Flags,
     params: Params,
     lists: Lists,
@@ -63,7 +60,7 @@ pub struct Book {
 
 impl Model for Book {
     ghost use Rattle.std.specs.Coded.{codes};
-    ghost use Rattle.sc_data.specs.contracts.Term as term;
+    ghost use Rattle.sc_term.specs.contracts.Term as term;
     ghost use Rattle.sc_keep.specs.State.{State, IsState, state_of};
 
     ghost Value = { State };
@@ -83,7 +80,7 @@ impl Book {
         problem.keeps();
         let symbols = copy_symbols(alloc, problem.sig())?;
         let inputs = copy_clauses(alloc, problem.inputs().as_slice())?;
-        let homes = Items::from_slice(alloc, problem.homes().as_slice())?;
+        let homes = List::from_slice(alloc, problem.homes().as_slice())?;
         Ok(Book {
             alloc,
             symbols,
@@ -92,12 +89,12 @@ impl Book {
             flags: problem.flags(),
             params: problem.params(),
             lists: Lists {
-                derived: Items::new(alloc),
-                usable: Items::new(alloc),
-                sos: Items::new(alloc),
-                passive: Items::new(alloc),
+                derived: List::new(alloc),
+                usable: List::new(alloc),
+                sos: List::new(alloc),
+                passive: List::new(alloc),
                 demods: Demods::new(alloc),
-                kept: Items::new(alloc),
+                kept: List::new(alloc),
             },
             whole: true,
         })
@@ -237,21 +234,21 @@ impl Book {
     }
 
     /// The usable clauses.
-    pub fn usable(&self) -> &Items<Numbered>
+    pub fn usable(&self) -> &List<Numbered>
         ensures { result.now ≡ self.now.book.usable }
     {
         &self.lists.usable
     }
 
     /// The clauses of the set of support, in order of age.
-    pub fn sos(&self) -> &Items<Numbered>
+    pub fn sos(&self) -> &List<Numbered>
         ensures { result.now ≡ self.now.book.sos }
     {
         &self.lists.sos
     }
 
     /// The passive clauses.
-    pub fn passive(&self) -> &Items<Numbered>
+    pub fn passive(&self) -> &List<Numbered>
         ensures { result.now ≡ self.now.book.passive }
     {
         &self.lists.passive
@@ -265,7 +262,7 @@ impl Book {
     }
 
     /// The rows of kept clauses, in the order in which they were kept.
-    pub fn kept(&self) -> &Items<KeptRow>
+    pub fn kept(&self) -> &List<KeptRow>
         ensures { result.now ≡ self.now.book.kept }
     {
         &self.lists.kept
@@ -274,7 +271,7 @@ impl Book {
     /// The lines of the clauses that clause number `goal` needs (`IsSplice`): where it is empty, a proof of the input
     /// clauses (`IsProof`). The book has to be whole. The answer is `OutOfMemory` too where there would be 4,294,967,295 lines or
     /// more.
-    pub fn proof(&self, goal: u32) -> Mem<Items<Line>>
+    pub fn proof(&self, goal: u32) -> Mem<List<Line>>
         requires whole { self.now.whole ≡ true }
         requires there { 0 < goal }
         requires within { goal ≤ length self.now.problem.inputs + length self.now.book.derived }

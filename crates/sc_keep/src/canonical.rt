@@ -1,14 +1,12 @@
 //! The canonical form of a conclusion, with the line of it.
 
 ghost use Rattle.std.specs.Prelude.{◌≡◌, ◌↔◌, ◌<◌, ◌≤◌, ◌^◌, IsTrue, IfOk, OnOk, IsSomeAnd, MatchOption, length};
-ghost use Rattle.sc_data.specs.Clause.{counting_from, firsts, variables, weight, IsCanonical, IsWithinLimits};
+ghost use Rattle.sc_term.specs.Clause.{counting_from, firsts, variables, weight, IsCanonical, IsWithinLimits};
 ghost use Rattle.sc_steps.specs.Derivation.{last_clause};
-ghost use Rattle.sc_rules.specs.Derivation.{EndsCanonical};
+ghost use Rattle.sc_core_rules.specs.Derivation.{EndsCanonical};
 ghost use Rattle.sc_keep.specs.Canonical.{place_or_first, place_terms, IsCanonicalLine};
 
-use sc_data::{Clause, Line, Step, Term};
-use sc_term::{Mem, canonical, full_width, note_variables};
-use sqlite_items::Items;
+use sc_term::{Clause, Line, List, Mem, Step, Term, canonical, full_width, note_variables};
 use std::alloc::Global;
 
 /// The place of the number, or 0 where it isn't there.
@@ -25,11 +23,11 @@ fn place_of(order: &[u32], n: usize) -> u32
 }
 
 /// As many variables as the count, each with its place in the order as its number, and 0 for one without a place.
-fn places(alloc: Global, order: &[u32], count: usize) -> Mem<Items<Term>>
+fn places(alloc: Global, order: &[u32], count: usize) -> Mem<List<Term>>
     requires { length order.now ≤ 10000 }
     ensures { IfOk result (λ terms. terms ≡ place_terms order.now count) }
 {
-    let mut terms = Items::new(alloc);
+    let mut terms = List::new(alloc);
     for n in 0..count {
         terms.push(Term::Var(place_of(order, n)))?;
     }
@@ -77,7 +75,7 @@ fn next_canonical(alloc: Global, c: &Clause, of: u32) -> Mem<Option<Line>>
 }
 
 /// Adds the line of the canonical form of the last clause, which is within the limits, unless the clause is canonical.
-pub fn end_canonical(alloc: Global, lines: &mut Items<Line>) -> Mem<()>
+pub fn end_canonical(alloc: Global, lines: &mut List<Line>) -> Mem<()>
     requires some { 0 < length lines.old }
     requires few { length lines.old < 2 ^ 32 }
     requires within { IsSomeAnd (last_clause lines.old) (λ c. IsWithinLimits c) }

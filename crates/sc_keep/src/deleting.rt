@@ -1,21 +1,20 @@
 //! What a new clause deletes, and how it becomes a demodulator.
 
 ghost use Rattle.std.specs.Prelude.{◌≡◌, ◌↔◌, ◌++◌, ◌<◌, List, All, IfOk, OnOk, IsTrue, true};
-ghost use Rattle.sc_data.specs.declared.Numbered.{Numbered as ANumbered};
-ghost use Rattle.sc_subsume.specs.Subsumption.{Subsumes};
-ghost use Rattle.sc_rules.specs.Rewriting.{BecomesDemodulator, HasRedex};
-ghost use Rattle.sc_rules.specs.Book.{with_deleted};
-ghost use Rattle.sc_rules.specs.Processing.{AreOthers, with_demodulator};
+ghost use Rattle.sc_term.specs.declared.Numbered.{Numbered as ANumbered};
+ghost use Rattle.sc_term.specs.Subsumption.{Subsumes};
+ghost use Rattle.sc_core_rules.specs.Rewriting.{BecomesDemodulator, HasRedex};
+ghost use Rattle.sc_core_rules.specs.Book.{with_deleted};
+ghost use Rattle.sc_core_rules.specs.Processing.{AreOthers, with_demodulator};
 ghost use Rattle.sc_keep.specs.Lists.{book_of};
 ghost use Rattle.sc_keep.specs.Rivals.{IsFit};
 ghost use Rattle.sc_keep.specs.Sweep.{Deletes, Demodulates, HaveDistinctNumbers, numbers};
 
 use crate::lists::Lists;
 use crate::sweep::{leave_out, note_reducible, note_subsumed};
-use sc_data::Numbered;
 use sc_demod::becomes_demod;
-use sc_reading::Flags;
-use sc_term::{Mem, copy};
+use sc_input_rules::Flags;
+use sc_term::{Mem, Numbered, copy};
 use std::alloc::Global;
 
 /// The numbers of the other clauses of usable and sos that the new one subsumes, in rising order.

@@ -4,11 +4,10 @@ ghost use Rattle.std.specs.Prelude.{◌++◌, ◌≤◌, ◌<◌, ◌↔◌, IfO
 ghost use Rattle.sc_keep.specs.Dropping.{IsDropped, IsHeavy, IsLong, IsSubsumed, IsSubsumedBy};
 
 use crate::live::{Live, live_subsumer};
-use sc_data::Clause;
-use sc_reading::{Flags, Params};
-use sc_rules::Fate;
+use sc_core_rules::Fate;
+use sc_input_rules::{Flags, Params};
 use sc_subsume::is_tautology;
-use sc_term::{Mem, weight};
+use sc_term::{Clause, Mem, weight};
 use std::alloc::Global;
 
 /// Whether the clause is too heavy.

@@ -1,11 +1,11 @@
 //! Every fate of a conclusion.
 
 ghost use Rattle.std.specs.Prelude.{◌≡◌, ◌++◌, ◌<◌, ◌≤◌, ◌+◌, ◌^◌, IfOk, OnOk};
-ghost use Rattle.sc_reading.specs.Problem.{Stated};
-ghost use Rattle.sc_rules.specs.Book.{IsSound, live, next_number, with_derived};
-ghost use Rattle.sc_rules.specs.Processing.{MeetsFate, Processes, only_fate};
-ghost use Rattle.sc_rules.specs.Simplification.{Simplifies};
-ghost use Rattle.sc_rules.specs.declared.fate.Fate.TheVariants.{Empty};
+ghost use Rattle.sc_input_rules.specs.Problem.{Stated};
+ghost use Rattle.sc_core_rules.specs.Book.{IsSound, live, next_number, with_derived};
+ghost use Rattle.sc_core_rules.specs.Processing.{MeetsFate, Processes, only_fate};
+ghost use Rattle.sc_core_rules.specs.Simplification.{Simplifies};
+ghost use Rattle.sc_core_rules.specs.declared.fate.Fate.TheVariants.{Empty};
 ghost use Rattle.sc_demod.specs.Standing.{ChecksWith};
 ghost use Rattle.sc_keep.specs.Dropping.{IsDropped};
 ghost use Rattle.sc_keep.specs.Lists.{AreReady, book_of};
@@ -18,12 +18,10 @@ use crate::keeping::{fate_alone, keep};
 use crate::lists::{Lists, join};
 use crate::live::Live;
 use crate::simplify::simplify;
-use sc_data::{Line, Numbered};
-use sc_reading::{Flags, Params};
-use sc_rules::{Fate, Processed};
+use sc_core_rules::{Fate, Processed};
+use sc_input_rules::{Flags, Params};
 use sc_steps::{Derived, Made};
-use sc_term::Mem;
-use sqlite_items::Items;
+use sc_term::{Line, List, Mem, Numbered};
 use std::alloc::Global;
 
 /// The conclusion, simplified by the demodulators and the live clauses (`Simplifies`).
@@ -42,7 +40,7 @@ fn simplified(alloc: Global, flags: Flags, params: Params, lists: &Lists, made: 
 }
 
 /// The clause with its lines takes the number, and ends the run.
-fn end_with(alloc: Global, lists: &mut Lists, n: Numbered, lines: Items<Line>) -> Mem<Processed>
+fn end_with(alloc: Global, lists: &mut Lists, n: Numbered, lines: List<Line>) -> Mem<Processed>
     ensures { IfOk result (λ out. (book_of lists.new ≡ with_derived (book_of lists.old) n.clause lines) × (out ≡ only_fate (Empty n.number))) }
 {
     let Numbered { number, clause } = n;
@@ -77,7 +75,7 @@ fn meet_fate(
     params: Params,
     lists: &mut Lists,
     n: Numbered,
-    lines: Items<Line>,
+    lines: List<Line>,
     turn: u32,
 ) -> Mem<Processed>
     requires light { params.max_weight ≤ 1000 }

@@ -1,13 +1,12 @@
 //! Forward subsumption: the clause of least number that subsumes a conclusion.
 
 ghost use Rattle.std.specs.Prelude.{◌↔◌, ◌++◌, ◌∷◌, [], List, IfOk, IsTrue};
-ghost use Rattle.sc_data.specs.declared.Numbered.{Numbered as ANumbered};
-ghost use Rattle.sc_subsume.specs.Subsumption.{Subsumes};
+ghost use Rattle.sc_term.specs.declared.Numbered.{Numbered as ANumbered};
+ghost use Rattle.sc_term.specs.Subsumption.{Subsumes};
 ghost use Rattle.sc_keep.specs.Least.{IsBelow, IsLeastNumber};
 
-use sc_data::{Clause, Numbered};
 use sc_subsume::subsumes;
-use sc_term::Mem;
+use sc_term::{Clause, Mem, Numbered};
 use std::alloc::Global;
 
 /// Whether the number is less than the best so far.

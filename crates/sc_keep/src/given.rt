@@ -1,14 +1,13 @@
 //! The given clause goes from sos to usable.
 
 ghost use Rattle.std.specs.Prelude.{◌≡◌, ◌≢◌, ◌<◌, OnOk, IfSome, IfNone, Contains, length, Some, slice_get};
-ghost use Rattle.sc_data.specs.declared.Numbered.{Numbered as ANumbered};
-ghost use Rattle.sc_rules.specs.Turn.{with_given};
+ghost use Rattle.sc_term.specs.declared.Numbered.{Numbered as ANumbered};
+ghost use Rattle.sc_core_rules.specs.Turn.{with_given};
 ghost use Rattle.sc_keep.specs.Lists.{book_of};
 
 use crate::lists::Lists;
 use crate::sweep::leave_out;
-use sc_data::Numbered;
-use sc_term::Mem;
+use sc_term::{Mem, Numbered};
 
 /// The place of the first clause of that number.
 fn place_of(ps: &[Numbered], n: u32) -> Option<usize>

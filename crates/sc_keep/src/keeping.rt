@@ -1,9 +1,9 @@
 //! What a kept clause does: it meets its rival, or sweeps the clauses that it subsumes or rewrites.
 
 ghost use Rattle.std.specs.Prelude.{◌≡◌, ◌++◌, ◌<◌, ◌+◌, ◌^◌, All, IfOk};
-ghost use Rattle.sc_reading.specs.Problem.{Stated};
-ghost use Rattle.sc_rules.specs.Processing.{Keeps, Sweeps, only_fate};
-ghost use Rattle.sc_rules.specs.declared.fate.Fate.TheVariants.{Kept};
+ghost use Rattle.sc_input_rules.specs.Problem.{Stated};
+ghost use Rattle.sc_core_rules.specs.Processing.{Keeps, Sweeps, only_fate};
+ghost use Rattle.sc_core_rules.specs.declared.fate.Fate.TheVariants.{Kept};
 ghost use Rattle.sc_keep.specs.Lists.{book_of};
 ghost use Rattle.sc_keep.specs.Rivals.{IsFit};
 ghost use Rattle.sc_keep.specs.Sweep.{HaveDistinctNumbers};
@@ -11,11 +11,9 @@ ghost use Rattle.sc_keep.specs.Sweep.{HaveDistinctNumbers};
 use crate::deleting::{delete_subsumed, demodulate};
 use crate::lists::Lists;
 use crate::live::{Live, live_rival};
-use sc_data::Numbered;
-use sc_reading::Flags;
-use sc_rules::{Fate, Processed};
-use sc_term::Mem;
-use sqlite_items::Items;
+use sc_core_rules::{Fate, Processed};
+use sc_input_rules::Flags;
+use sc_term::{List, Mem, Numbered};
 use std::alloc::Global;
 
 /// The fate, with nothing deleted.
@@ -24,8 +22,8 @@ pub fn fate_alone(alloc: Global, fate: Fate) -> Processed
 {
     Processed {
         fate,
-        gone: Items::new(alloc),
-        again: Items::new(alloc),
+        gone: List::new(alloc),
+        again: List::new(alloc),
     }
 }
 
@@ -37,8 +35,8 @@ fn kept_with(alloc: Global, number: u32, subsumed: Vec<u32>, rewritten: Vec<u32>
     gone.extend_from_slice(rewritten.as_slice())?;
     Ok(Processed {
         fate: Fate::Kept(number),
-        gone: Items::from_vec(gone),
-        again: Items::from_vec(rewritten),
+        gone: List::from_vec(gone),
+        again: List::from_vec(rewritten),
     })
 }
 

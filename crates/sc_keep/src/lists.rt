@@ -1,40 +1,32 @@
 //! The lists of the book, as plain data, and the clause that joins them.
 
 ghost use Rattle.std.specs.Prelude.{◌≡◌, ◌∷◌, [], ◌++◌, ◌<◌, ◌^◌, OnOk};
-ghost use Rattle.sc_data.specs.Clause as spec;
-ghost use Rattle.sc_reading.specs.Problem.{Stated};
-ghost use Rattle.sc_rules.specs.Book.{next_number};
-ghost use Rattle.sc_rules.specs.Processing.{with_kept};
+ghost use Rattle.sc_term.specs.Clause as spec;
+ghost use Rattle.sc_input_rules.specs.Problem.{Stated};
+ghost use Rattle.sc_core_rules.specs.Book.{next_number};
+ghost use Rattle.sc_core_rules.specs.Processing.{with_kept};
 ghost use Rattle.sc_keep.specs.Lists.{book_of};
 
-use sc_data::{Line, Numbered};
+use sc_core_rules::KeptRow;
 use sc_demod::Demods;
-use sc_rules::KeptRow;
 use sc_steps::Derived;
-use sc_term::{Mem, copy, weight};
-use sqlite_items::Items;
+use sc_term::{Line, List, Mem, Numbered, copy, weight};
 use std::alloc::Global;
 
 /// The derived clauses, the lists of live clauses, the demodulators, and the rows of kept clauses.
 #[derive(Drop)]
 pub struct Lists {
-    pub derived: Items<Derived>,
-    pub usable: Items<Numbered>,
-    pub sos: Items<Numbered>,
-    pub passive: Items<Numbered>,
+    pub derived: List<Derived>,
+    pub usable: List<Numbered>,
+    pub sos: List<Numbered>,
+    pub passive: List<Numbered>,
     pub demods: Demods,
-    pub kept: Items<KeptRow>,
+    pub kept: List<KeptRow>,
 }
 
 /// The clause with its derivation, which has the next number, joins the end of sos and the rows of kept clauses. After
 /// want of memory the lists may have it in part.
-pub fn join(
-    alloc: Global,
-    lists: &mut Lists,
-    n: &Numbered,
-    lines: Items<Line>,
-    turn: u32,
-) -> Mem<()>
+pub fn join(alloc: Global, lists: &mut Lists, n: &Numbered, lines: List<Line>, turn: u32) -> Mem<()>
     requires { spec.weight n.now.clause < 2 ^ 32 }
     ensures usable { OnOk result (lists.new.usable ≡ lists.old.usable) }
     ensures sos { OnOk result (lists.new.sos ≡ lists.old.sos ++ n.now ∷ []) }

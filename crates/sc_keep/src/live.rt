@@ -1,14 +1,13 @@
 //! What is looked for among all live clauses: those of usable, sos and passive.
 
 ghost use Rattle.std.specs.Prelude.{◌++◌, All, IfOk};
-ghost use Rattle.sc_subsume.specs.Subsumption.{Subsumes};
+ghost use Rattle.sc_term.specs.Subsumption.{Subsumes};
 ghost use Rattle.sc_keep.specs.Least.{IsLeastNumber};
 ghost use Rattle.sc_keep.specs.Rivals.{IsFit, IsLeastRival};
 
 use crate::forward::least_subsumer;
 use crate::rival::{Rival, least_rival};
-use sc_data::{Clause, Numbered};
-use sc_term::Mem;
+use sc_term::{Clause, Mem, Numbered};
 use std::alloc::Global;
 
 /// The clauses that are live.

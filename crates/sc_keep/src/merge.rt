@@ -1,16 +1,14 @@
 //! Literals that equal an earlier one are removed, with the lines of it.
 
-ghost use Rattle.std.specs.Prelude.{◌≡◌, ◌↔◌, ◌<◌, ◌≤◌, ◌+◌, ◌++◌, ◌∷◌, ◌^◌, [], ℕ, List, Contains, IsTrue, IfOk, OnOk, MatchOption, IsSomeAnd, length};
-ghost use Rattle.sc_data.specs.declared.Line.{Line as ALine};
-ghost use Rattle.sc_data.specs.Numbering.{without};
+ghost use Rattle.std.specs.Prelude.{◌≡◌, ◌↔◌, ◌<◌, ◌≤◌, ◌+◌, ◌++◌, ◌∷◌, ◌^◌, [], ℕ, List as AList, Contains, IsTrue, IfOk, OnOk, MatchOption, IsSomeAnd, length};
+ghost use Rattle.sc_term.specs.declared.Line.{Line as ALine};
+ghost use Rattle.sc_term.specs.Numbering.{without};
 ghost use Rattle.sc_steps.specs.Derivation.{last_clause};
-ghost use Rattle.sc_rules.specs.Order.{Exhausts};
-ghost use Rattle.sc_rules.specs.Simplification.{IsRepeated, MergesOnce};
+ghost use Rattle.sc_core_rules.specs.Order.{Exhausts};
+ghost use Rattle.sc_core_rules.specs.Simplification.{IsRepeated, MergesOnce};
 ghost use Rattle.sc_keep.specs.Repeated.{IsFirstRepeated};
 
-use sc_data::{Clause, Line, Literal, Step};
-use sc_term::{Mem, copy, same_literal};
-use sqlite_items::Items;
+use sc_term::{Clause, Line, List, Literal, Mem, Step, copy, same_literal};
 use std::alloc::Global;
 
 /// Whether one of the literals is the literal.
@@ -53,7 +51,7 @@ fn copy_without(alloc: Global, c: &Clause, lit: u32) -> Mem<Clause>
 /// The line by which the last clause loses the first literal that equals an earlier one.
 fn next_merge(alloc: Global, lines: &[Line]) -> Mem<Option<Line>>
     requires { IsSomeAnd (last_clause lines.now) (λ c. length lines.now + length c.literals < 2 ^ 32) }
-    ensures { IfOk result (λ found. MatchOption found ((after : List ALine) → ¬ MergesOnce lines.now after)
+    ensures { IfOk result (λ found. MatchOption found ((after : AList ALine) → ¬ MergesOnce lines.now after)
         (λ line. MergesOnce lines.now (lines.now ++ line ∷ []))) }
 {
     let c = &lines[lines.len() - 1].clause;
@@ -71,7 +69,7 @@ fn next_merge(alloc: Global, lines: &[Line]) -> Mem<Option<Line>>
 }
 
 /// Removes literals of the last clause that equal an earlier one, the first of them first, with a line for each.
-pub fn merge_all(alloc: Global, lines: &mut Items<Line>) -> Mem<()>
+pub fn merge_all(alloc: Global, lines: &mut List<Line>) -> Mem<()>
     requires { IsSomeAnd (last_clause lines.old) (λ c. length lines.old + length c.literals < 2 ^ 32) }
     ensures merges { OnOk result (Exhausts MergesOnce lines.old lines.new) }
     ensures short { OnOk result (IsSomeAnd (last_clause lines.new) (λ c. length lines.new + length c.literals < 2 ^ 32)) }

@@ -1,16 +1,14 @@
 //! The parts of two units in the joint instance that makes their atoms equal.
 
-ghost use Rattle.std.specs.Prelude.{◌≡◌, ◌≢◌, ◌∷◌, [], ◌<◌, ◌≤◌, ◌+◌, ◌^◌, List, map, length, IfOk, IfSome, IfNone, MatchOption};
-ghost use Rattle.sc_data.specs.declared.Clause.{Clause as AClause};
-ghost use Rattle.sc_data.specs.Term.{largest};
-ghost use Rattle.sc_data.specs.Clause as spec;
-ghost use Rattle.sc_data.specs.JointInstance.{apart};
+ghost use Rattle.std.specs.Prelude.{◌≡◌, ◌≢◌, ◌∷◌, [], ◌<◌, ◌≤◌, ◌+◌, ◌^◌, List as AList, map, length, IfOk, IfSome, IfNone, MatchOption};
+ghost use Rattle.sc_term.specs.declared.Clause.{Clause as AClause};
+ghost use Rattle.sc_term.specs.Term.{largest};
+ghost use Rattle.sc_term.specs.Clause as spec;
+ghost use Rattle.sc_term.specs.JointInstance.{apart};
 ghost use Rattle.sc_keep.specs.Parts.{HasNoParts, HasParts, unit_pairs};
 
-use sc_data::{Clause, Literal, Term};
-use sc_term::{Mem, shift, width};
+use sc_term::{Clause, List, Literal, Mem, Term, shift, width};
 use sc_unify::{joint_terms, unify};
-use sqlite_items::Items;
 use std::alloc::Global;
 
 /// The literal of a unit.
@@ -28,12 +26,12 @@ pub fn only_literal(c: &Clause) -> Option<&Literal>
 /// two atoms equal, where there is one within the limits.
 fn terms_of_pair(
     alloc: Global,
-    renamed: &Items<Clause>,
+    renamed: &List<Clause>,
     l: &Literal,
     r: &Literal,
-) -> Mem<Option<Items<Items<Term>>>>
+) -> Mem<Option<List<List<Term>>>>
     requires { largest (map spec.width renamed.now) < 2 ^ 31 }
-    ensures { IfOk result (λ told. (own : List AClause) → renamed.now ≡ apart own
+    ensures { IfOk result (λ told. (own : AList AClause) → renamed.now ≡ apart own
         → let pairs = record { left = l.now; right = r.now } ∷ [] in MatchOption told (HasNoParts own pairs) (λ terms. HasParts own pairs terms)) }
 {
     match unify(alloc, l, r)? {
@@ -46,12 +44,12 @@ fn terms_of_pair(
 }
 
 /// The two clauses renamed apart.
-fn renamed_apart(alloc: Global, n: &Clause, m: &Clause) -> Mem<Items<Clause>>
+fn renamed_apart(alloc: Global, n: &Clause, m: &Clause) -> Mem<List<Clause>>
     requires { spec.width n.now + spec.width m.now < 2 ^ 31 }
     ensures apart { IfOk result (λ renamed. renamed ≡ apart (n.now ∷ m.now ∷ [])) }
     ensures width { IfOk result (λ renamed. largest (map spec.width renamed) < 2 ^ 31) }
 {
-    let mut renamed = Items::new(alloc);
+    let mut renamed = List::new(alloc);
     renamed.push(shift(alloc, n, 0)?)?;
     renamed.push(shift(alloc, m, width(n))?)?;
     Ok(renamed)
@@ -59,7 +57,7 @@ fn renamed_apart(alloc: Global, n: &Clause, m: &Clause) -> Mem<Items<Clause>>
 
 /// The terms that take the two units to their parts in the joint instance that makes their atoms equal, where there is
 /// one within the limits.
-pub fn parts_terms(alloc: Global, n: &Clause, m: &Clause) -> Mem<Option<Items<Items<Term>>>>
+pub fn parts_terms(alloc: Global, n: &Clause, m: &Clause) -> Mem<Option<List<List<Term>>>>
     requires few { spec.width n.now + spec.width m.now < 2 ^ 31 }
     requires unit_n { length n.now.literals ≡ 1 }
     requires unit_m { length m.now.literals ≡ 1 }

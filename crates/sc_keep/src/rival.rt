@@ -1,13 +1,12 @@
 //! The live unit of least number that conflicts with a new one.
 
 ghost use Rattle.std.specs.Prelude.{◌≡◌, ◌≢◌, ◌↔◌, ◌++◌, ◌∷◌, [], List, All, IsTrue, IfOk};
-ghost use Rattle.sc_data.specs.declared.Numbered.{Numbered as ANumbered};
+ghost use Rattle.sc_term.specs.declared.Numbered.{Numbered as ANumbered};
 ghost use Rattle.sc_keep.specs.Rivals.{IsBelowRival, IsFit, IsLeastRival};
 
 use crate::units::conflict;
-use sc_data::Numbered;
 use sc_steps::Derived;
-use sc_term::Mem;
+use sc_term::{Mem, Numbered};
 use std::alloc::Global;
 
 /// The number of a unit that conflicts, and the empty clause of the two with its derivation.

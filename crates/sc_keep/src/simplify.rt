@@ -1,32 +1,30 @@
 //! A conclusion is simplified: rewritten, flipped, cut by units, merged, and made canonical.
 
-ghost use Rattle.std.specs.Prelude.{◌≡◌, ◌≢◌, ◌<◌, ◌+◌, ◌^◌, ◌++◌, ◌↔◌, List, AllPairs, IfOk, IsSomeAnd, IsTrue, length};
-ghost use Rattle.sc_data.specs.declared.Clause.{Clause as AClause};
-ghost use Rattle.sc_data.specs.declared.Line.{Line as ALine};
-ghost use Rattle.sc_data.specs.Clause.{IsWithinLimits};
-ghost use Rattle.sc_data.specs.Proof.{AreSteps};
+ghost use Rattle.std.specs.Prelude.{◌≡◌, ◌≢◌, ◌<◌, ◌+◌, ◌^◌, ◌++◌, ◌↔◌, List as AList, AllPairs, IfOk, IsSomeAnd, IsTrue, length};
+ghost use Rattle.sc_term.specs.declared.Clause.{Clause as AClause};
+ghost use Rattle.sc_term.specs.declared.Line.{Line as ALine};
+ghost use Rattle.sc_term.specs.Clause.{IsWithinLimits};
+ghost use Rattle.sc_term.specs.Proof.{AreSteps};
 ghost use Rattle.sc_steps.specs.Derivation.{last_clause};
-ghost use Rattle.sc_rules.specs.Derivation.{EndsCanonical};
-ghost use Rattle.sc_rules.specs.Order.{Exhausts, With};
-ghost use Rattle.sc_rules.specs.Simplification.{DeletesOnce, MergesOnce, Orients, Simplifies};
+ghost use Rattle.sc_core_rules.specs.Derivation.{EndsCanonical};
+ghost use Rattle.sc_core_rules.specs.Order.{Exhausts, With};
+ghost use Rattle.sc_core_rules.specs.Simplification.{DeletesOnce, MergesOnce, Orients, Simplifies};
 ghost use Rattle.sc_demod.specs.Standing.{ChecksWith};
 
 use crate::canonical::end_canonical;
 use crate::live::Live;
 use crate::merge::merge_all;
 use crate::units_in_order::units_in_order;
-use sc_data::Line;
 use sc_demod::{Demods, orient, rewrite, unit_delete_by};
-use sc_reading::Flags;
+use sc_input_rules::Flags;
 use sc_steps::Made;
-use sc_term::{Mem, OutOfMemory, copy};
-use sqlite_items::Items;
+use sc_term::{Line, List, Mem, OutOfMemory, copy};
 use std::alloc::Global;
 
 /// The conclusion, flipped where that is asked for and it is an equation whose right side weighs more.
 fn oriented(alloc: Global, dynamic_demod: bool, made: Made) -> Mem<Made>
     ensures orients { IfOk result (λ after. With dynamic_demod (Orients made.lines after.lines) (after.lines ≡ made.lines)) }
-    ensures checks { IfOk result (λ after. (clauses : List AClause) → AreSteps clauses made.lines → AreSteps clauses after.lines) }
+    ensures checks { IfOk result (λ after. (clauses : AList AClause) → AreSteps clauses made.lines → AreSteps clauses after.lines) }
 {
     if !dynamic_demod {
         return Ok(made);
@@ -60,7 +58,7 @@ fn has_room(lines: &[Line]) -> bool
 }
 
 /// The clause that the lines end with, with its lines.
-fn made_of(alloc: Global, lines: Items<Line>) -> Mem<Made>
+fn made_of(alloc: Global, lines: List<Line>) -> Mem<Made>
     requires some { 0 < length lines }
     requires within { IsSomeAnd (last_clause lines) (λ c. IsWithinLimits c) }
     ensures { IfOk result (λ made. made.lines ≡ lines) }
@@ -71,7 +69,7 @@ fn made_of(alloc: Global, lines: Items<Line>) -> Mem<Made>
 
 /// The conclusion without literals that equal an earlier one, in its canonical form.
 fn merged_and_canonical(alloc: Global, made: Made) -> Mem<Made>
-    ensures { IfOk result (λ after. (merged : List ALine) × Exhausts MergesOnce made.lines merged × EndsCanonical merged after.lines) }
+    ensures { IfOk result (λ after. (merged : AList ALine) × Exhausts MergesOnce made.lines merged × EndsCanonical merged after.lines) }
 {
     if !has_room(made.lines.as_slice()) {
         return Err(OutOfMemory);

@@ -1,16 +1,16 @@
 //! The start: the input clauses go to their lists, and the first that is empty or conflicts with an earlier one ends it.
 
-ghost use Rattle.std.specs.Prelude.{◌≡◌, ◌↔◌, ◌++◌, ◌∷◌, [], ◌<◌, ◌+◌, ◌^◌, List, All, AllPairs, IsTrue, IfOk, OnOk, MatchOption, Some, None, length, zip};
+ghost use Rattle.std.specs.Prelude.{◌≡◌, ◌↔◌, ◌++◌, ◌∷◌, [], ◌<◌, ◌+◌, ◌^◌, List as AList, All, AllPairs, IsTrue, IfOk, OnOk, MatchOption, Some, None, length, zip};
 ghost use Rattle.std.specs.List.{AllByRecursion};
-ghost use Rattle.sc_data.specs.Numbering.{numbered as numbered_element};
-ghost use Rattle.sc_data.specs.declared.Numbered.{Numbered as ANumbered};
-ghost use Rattle.sc_reading.specs.Problem.{Stated};
-ghost use Rattle.sc_reading.specs.WellFormed.{FitsHome};
-ghost use Rattle.sc_reading.specs.declared.settings.Home.TheVariants.{Demodulators};
-ghost use Rattle.sc_rules.specs.Rewriting.{IsDemodulator};
-ghost use Rattle.sc_rules.specs.Conflict.{Conflicts};
-ghost use Rattle.sc_rules.specs.Order.{IsFilter};
-ghost use Rattle.sc_rules.specs.Start.{numbered_from, EndsStart, IsEarlierRival, OpensBook, Starts};
+ghost use Rattle.sc_term.specs.Numbering.{numbered as numbered_element};
+ghost use Rattle.sc_term.specs.declared.Numbered.{Numbered as ANumbered};
+ghost use Rattle.sc_input_rules.specs.Problem.{Stated};
+ghost use Rattle.sc_input_rules.specs.WellFormed.{FitsHome};
+ghost use Rattle.sc_input_rules.specs.declared.settings.Home.TheVariants.{Demodulators};
+ghost use Rattle.sc_core_rules.specs.Rewriting.{IsDemodulator};
+ghost use Rattle.sc_core_rules.specs.Conflict.{Conflicts};
+ghost use Rattle.sc_core_rules.specs.Order.{IsFilter};
+ghost use Rattle.sc_core_rules.specs.Start.{numbered_from, EndsStart, IsEarlierRival, OpensBook, Starts};
 ghost use Rattle.sc_keep.specs.Rivals.{IsFit, IsFitClause};
 ghost use Rattle.sc_keep.specs.Start.{EndsBy, HasInput, IsBelowEnding, IsFirstEnding, IsLeastEarlier};
 ghost use Rattle.sc_keep.specs.Lists.{book_of};
@@ -19,20 +19,18 @@ ghost use Rattle.sc_keep.specs.Started.{IsEndedBy};
 use crate::lists::Lists;
 use crate::rival::{Rival, is_below};
 use crate::units::conflict;
-use sc_data::{Clause, Numbered};
 use sc_demod::Demods;
-use sc_reading::Home;
+use sc_input_rules::Home;
 use sc_steps::Derived;
-use sc_term::{Mem, copy};
-use sqlite_items::Items;
+use sc_term::{Clause, List, Mem, Numbered, copy};
 use std::alloc::Global;
 
 /// The clauses with their numbers, from 1.
-fn numbered(alloc: Global, inputs: &[Clause]) -> Mem<Items<Numbered>>
+fn numbered(alloc: Global, inputs: &[Clause]) -> Mem<List<Numbered>>
     requires few { length inputs.now < 2 ^ 32 }
     ensures { IfOk result (λ all. all ≡ numbered_from 1 inputs.now) }
 {
-    let mut all = Items::new(alloc);
+    let mut all = List::new(alloc);
     for at in 0..inputs.len() {
         all.push(Numbered {
             number: at as u32 + 1,
@@ -56,10 +54,10 @@ fn stands_in(homes: &[Home], n: u32, home: Home) -> bool
 }
 
 /// The clauses that stand in the list, in order.
-fn at_home(alloc: Global, all: &[Numbered], homes: &[Home], home: Home) -> Mem<Items<Numbered>>
+fn at_home(alloc: Global, all: &[Numbered], homes: &[Home], home: Home) -> Mem<List<Numbered>>
     ensures { IfOk result (λ ps. IsFilter (λ p. numbered_element homes.now p.number ≡ Some home) all.now ps) }
 {
-    let mut ps = Items::new(alloc);
+    let mut ps = List::new(alloc);
     for p in all {
         if stands_in(homes, p.number, home) {
             ps.push(Numbered {
@@ -106,7 +104,7 @@ fn better_earlier(
 ) -> Mem<Option<Rival>>
     requires fit_n { IsFit n.now }
     requires fit_m { IsFit m.now }
-    ensures { IfOk result (λ now. (problem : Stated) → problem.homes ≡ homes.now → (front : List ANumbered)
+    ensures { IfOk result (λ now. (problem : Stated) → problem.homes ≡ homes.now → (front : AList ANumbered)
         → IsLeastEarlier problem n.now front best → IsLeastEarlier problem n.now (front ++ m.now ∷ []) now) }
 {
     if !is_below(m.number, &best) {
@@ -188,7 +186,7 @@ fn better_ending(
 ) -> Mem<Option<Ending>>
     requires fit { IsFit n.now }
     requires all_fit { All IsFit all.now }
-    ensures { IfOk result (λ now. (problem : Stated) → HasInput homes.now all.now problem → (front : List ANumbered)
+    ensures { IfOk result (λ now. (problem : Stated) → HasInput homes.now all.now problem → (front : AList ANumbered)
         → IsFirstEnding problem front best → IsFirstEnding problem (front ++ n.now ∷ []) now) }
 {
     if !is_before(n.number, &best) {
@@ -246,12 +244,12 @@ fn opened(alloc: Global, homes: &[Home], all: &[Numbered]) -> Mem<Started>
 {
     Ok(Started {
         lists: Lists {
-            derived: Items::new(alloc),
+            derived: List::new(alloc),
             usable: at_home(alloc, all, homes, Home::Usable)?,
             sos: at_home(alloc, all, homes, Home::Sos)?,
             passive: at_home(alloc, all, homes, Home::Passive)?,
             demods: demodulators(alloc, all, homes)?,
-            kept: Items::new(alloc),
+            kept: List::new(alloc),
         },
         goal: None,
     })

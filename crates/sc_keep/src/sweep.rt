@@ -1,16 +1,14 @@
 //! The clauses that a new one subsumes or rewrites are found, and clauses are taken out of lists.
 
-ghost use Rattle.std.specs.Prelude.{◌≡◌, ◌↔◌, ◌++◌, ℕ, List, map, IsTrue, IfOk, OnOk, nat_eq};
+ghost use Rattle.std.specs.Prelude.{◌≡◌, ◌↔◌, ◌++◌, ℕ, List as AList, map, IsTrue, IfOk, OnOk, nat_eq};
 ghost use Rattle.std.specs.List.{list_any};
-ghost use Rattle.sc_data.specs.declared.Numbered.{Numbered as ANumbered};
-ghost use Rattle.sc_rules.specs.Order.{IsFilter};
+ghost use Rattle.sc_term.specs.declared.Numbered.{Numbered as ANumbered};
+ghost use Rattle.sc_core_rules.specs.Order.{IsFilter};
 ghost use Rattle.sc_keep.specs.Sweep.{IsOtherReducible, IsOtherSubsumed, numbers, without_numbers};
 
-use sc_data::Numbered;
 use sc_demod::has_redex;
 use sc_subsume::subsumes;
-use sc_term::Mem;
-use sqlite_items::Items;
+use sc_term::{List, Mem, Numbered};
 use std::alloc::Global;
 
 /// Whether the clause is another that the new one subsumes.
@@ -25,7 +23,7 @@ fn is_subsumed(alloc: Global, n: &Numbered, p: &Numbered) -> Mem<bool>
 
 /// Adds the numbers of the other clauses that the new one subsumes.
 pub fn note_subsumed(alloc: Global, n: &Numbered, ps: &[Numbered], gone: &mut Vec<u32>) -> Mem<()>
-    ensures { OnOk result ((picked : List ANumbered) × IsFilter (IsOtherSubsumed n.now) ps.now picked
+    ensures { OnOk result ((picked : AList ANumbered) × IsFilter (IsOtherSubsumed n.now) ps.now picked
         × (gone.new.items ≡ gone.old.items ++ numbers picked)) }
 {
     for p in ps {
@@ -48,7 +46,7 @@ fn is_reducible(alloc: Global, n: &Numbered, p: &Numbered) -> Mem<bool>
 
 /// Adds the numbers of the other clauses that have a redex by the new one.
 pub fn note_reducible(alloc: Global, n: &Numbered, ps: &[Numbered], gone: &mut Vec<u32>) -> Mem<()>
-    ensures { OnOk result ((picked : List ANumbered) × IsFilter (IsOtherReducible n.now) ps.now picked
+    ensures { OnOk result ((picked : AList ANumbered) × IsFilter (IsOtherReducible n.now) ps.now picked
         × (gone.new.items ≡ gone.old.items ++ numbers picked)) }
 {
     for p in ps {
@@ -72,7 +70,7 @@ fn is_among(numbers: &[u32], n: u32) -> bool
 }
 
 /// Takes the clauses of these numbers out.
-pub fn leave_out(ps: &mut Items<Numbered>, gone: &[u32])
+pub fn leave_out(ps: &mut List<Numbered>, gone: &[u32])
     ensures { ps.new ≡ without_numbers gone.now ps.old }
 {
     let count = ps.len();

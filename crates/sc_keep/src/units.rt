@@ -2,18 +2,16 @@
 
 ghost use Rattle.std.specs.Prelude.{◌≡◌, ◌≢◌, ◌∷◌, [], ◌↔◌, ◌<◌, ◌+◌, ◌^◌, not, length, IsTrue, IfOk, MatchOption};
 ghost use Rattle.std.specs.List.{All};
-ghost use Rattle.sc_data.specs.Clause as spec;
-ghost use Rattle.sc_steps.specs.declared.derivation.Derived.{Derived as ADerived};
-ghost use Rattle.sc_rules.specs.Conflict.{Conflicts};
-ghost use Rattle.sc_rules.specs.Pairing.{HaveOppositeSigns};
+ghost use Rattle.sc_term.specs.Clause as spec;
+ghost use Rattle.sc_steps.specs.declared.derivations.derivation.Derived.{Derived as ADerived};
+ghost use Rattle.sc_core_rules.specs.Conflict.{Conflicts};
+ghost use Rattle.sc_core_rules.specs.Pairing.{HaveOppositeSigns};
 ghost use Rattle.sc_keep.specs.Parts.{HasParts, unit_pairs};
 
 use crate::adding::add_part;
 use crate::parts::{only_literal, parts_terms};
-use sc_data::{Clause, Line, Literal, Numbered, Step, Term};
 use sc_steps::Derived;
-use sc_term::{Mem, copy_terms};
-use sqlite_items::Items;
+use sc_term::{Clause, Line, List, Literal, Mem, Numbered, Step, Term, copy_terms};
 use std::alloc::Global;
 
 /// Whether the two have opposite signs and one predicate.
@@ -24,7 +22,7 @@ fn may_conflict(l: &Literal, r: &Literal) -> bool
 }
 
 /// The empty clause with the derivation from the parts of the two units.
-fn derivation(alloc: Global, n: &Numbered, m: &Numbered, terms: &[Items<Term>]) -> Mem<Derived>
+fn derivation(alloc: Global, n: &Numbered, m: &Numbered, terms: &[List<Term>]) -> Mem<Derived>
     requires differ { n.now.number ≢ m.now.number }
     requires canonical_n { spec.IsCanonical n.now.clause }
     requires canonical_m { spec.IsCanonical m.now.clause }
@@ -34,7 +32,7 @@ fn derivation(alloc: Global, n: &Numbered, m: &Numbered, terms: &[Items<Term>]) 
     requires parts { HasParts (n.now.clause ∷ m.now.clause ∷ []) (unit_pairs n.now.clause m.now.clause) terms.now }
     ensures { IfOk result (λ made. Conflicts n.now m.now made) }
 {
-    let mut lines = Items::new(alloc);
+    let mut lines = List::new(alloc);
     let first = copy_terms(alloc, terms[0].as_slice())?;
     let second = copy_terms(alloc, terms[1].as_slice())?;
     let left = add_part(alloc, &mut lines, n, first)?;
@@ -47,12 +45,12 @@ fn derivation(alloc: Global, n: &Numbered, m: &Numbered, terms: &[Items<Term>]) 
             right_lit: 1,
         },
         clause: Clause {
-            literals: Items::new(alloc),
+            literals: List::new(alloc),
         },
     })?;
     Ok(Derived {
         clause: Clause {
-            literals: Items::new(alloc),
+            literals: List::new(alloc),
         },
         lines,
     })

@@ -1,14 +1,13 @@
 //! The live clauses of one literal, in the order of their numbers.
 
 ghost use Rattle.std.specs.Prelude.{◌≢◌, ◌++◌, List, AllPairs, IfOk, OnOk};
-ghost use Rattle.sc_data.specs.declared.Numbered.{Numbered as ANumbered};
-ghost use Rattle.sc_rules.specs.Order.{IsFilter};
+ghost use Rattle.sc_term.specs.declared.Numbered.{Numbered as ANumbered};
+ghost use Rattle.sc_core_rules.specs.Order.{IsFilter};
 ghost use Rattle.sc_resolve.specs.ByNumber.{seen};
 ghost use Rattle.sc_keep.specs.LiveUnits.{HasOneLiteral, IsNoted, AreUnitsInOrder};
 
 use crate::live::Live;
-use sc_data::Numbered;
-use sc_term::Mem;
+use sc_term::{Mem, Numbered};
 use std::alloc::Global;
 
 /// Adds the clause, where it has one literal.

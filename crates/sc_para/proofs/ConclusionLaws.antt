@@ -1,16 +1,16 @@
 -- A conclusion of paramodulation, put together.
 use Rattle.std.proofs.Common.{◌≡◌, ◌∙◌, sym, ap, subst, refl, ℕ, List, [], ◌∷◌, Some, true}
-use Rattle.sc_data.specs.declared.Side.{Side}
-use Rattle.sc_data.specs.declared.Term.{Term}
-use Rattle.sc_data.specs.declared.Literal.{Literal}
-use Rattle.sc_data.specs.declared.Clause.{Clause}
-use Rattle.sc_data.specs.Numbering.{numbered}
-use Rattle.sc_data.specs.Path.{IsSubtermAt, IsReplaced}
-use Rattle.sc_data.specs.Proof.{chosen, other}
-use Rattle.sc_data.specs.Refuted.{equation}
-use Rattle.sc_rules.specs.declared.site.ParaSite.{ParaSite}
-use Rattle.sc_rules.proofs.StepLaws.{same_some}
-use Rattle.sc_rules.proofs.SimplifyLaws.{subterm_one}
+use Rattle.sc_term.specs.declared.Side.{Side}
+use Rattle.sc_term.specs.declared.Term.{Term}
+use Rattle.sc_term.specs.declared.Literal.{Literal}
+use Rattle.sc_term.specs.declared.Clause.{Clause}
+use Rattle.sc_term.specs.Numbering.{numbered}
+use Rattle.sc_term.specs.Path.{IsSubtermAt, IsReplaced}
+use Rattle.sc_term.specs.Proof.{chosen, other}
+use Rattle.sc_term.specs.Refuted.{equation}
+use Rattle.sc_core_rules.specs.declared.site.ParaSite.{ParaSite}
+use Rattle.sc_core_rules.proofs.StepLaws.{same_some}
+use Rattle.sc_core_rules.proofs.SimplifyLaws.{subterm_one}
 use Rattle.sc_para.specs.Conclusion.{AreSidesOf, IsFitting, IsChanged}
 use Rattle.sc_para.proofs.ReplacingLaws.{can_replace, replaced_is}
 

@@ -2,11 +2,11 @@
 use Rattle.std.proofs.Common.{◌≡◌, sym, subst, ℕ, List, [], ◌∷◌, Some, slice_get, get_or}
 use Rattle.std.specs.List.{Contains}
 use Rattle.std.proofs.lemmas.Option.{slice_get_within, get_or_from_slice_get}
-use Rattle.sc_data.specs.declared.Numbered.{Numbered}
-use Rattle.sc_rules.specs.declared.site.ParaSite.{ParaSite}
-use Rattle.sc_rules.specs.Inference.{Inference}
-use Rattle.sc_rules.specs.Paramodulation.{IsPara, IsParaFrom, AreParaFromSites}
-use Rattle.sc_rules.proofs.Enumerations.{in_one}
+use Rattle.sc_term.specs.declared.Numbered.{Numbered}
+use Rattle.sc_core_rules.specs.declared.site.ParaSite.{ParaSite}
+use Rattle.sc_core_rules.specs.Inference.{Inference}
+use Rattle.sc_core_rules.specs.Paramodulation.{IsPara, IsParaFrom, AreParaFromSites}
+use Rattle.sc_core_rules.proofs.Enumerations.{in_one}
 
 pub first_site : (from into : Numbered) (usable : List Numbered) (limit : ℕ) (sites : List ParaSite) (x : ParaSite) → usable ≡ into ∷ [] → AreParaFromSites from usable limit sites
     → slice_get sites 0 ≡ Some x → (i : Inference) × IsPara from into x i

@@ -2,12 +2,12 @@
 use Rattle.std.proofs.Common.{◌≡◌, ◌∙◌, sym, subst, ℕ, ◌-◌, ◌<◌, ◌⊎◌, inl, inr, List, [], length, Some, slice_get, get_or, arith}
 use Rattle.std.specs.List.{AllPairs, Contains, All}
 use Rattle.std.proofs.lemmas.Option.{slice_get_within, get_or_from_slice_get}
-use Rattle.sc_data.specs.declared.Numbered.{Numbered}
-use Rattle.sc_rules.specs.declared.site.ParaSite.{ParaSite}
-use Rattle.sc_rules.specs.Order.{IsBefore}
-use Rattle.sc_rules.specs.Inference.{Inference}
-use Rattle.sc_rules.specs.Paramodulation.{IsParaFrom, IsParaInto, para_from_numbers, para_into_numbers, AreParaFromSites, AreParaIntoSites}
-use Rattle.sc_rules.proofs.StepLaws.{same_some}
+use Rattle.sc_term.specs.declared.Numbered.{Numbered}
+use Rattle.sc_core_rules.specs.declared.site.ParaSite.{ParaSite}
+use Rattle.sc_core_rules.specs.Order.{IsBefore}
+use Rattle.sc_core_rules.specs.Inference.{Inference}
+use Rattle.sc_core_rules.specs.Paramodulation.{IsParaFrom, IsParaInto, para_from_numbers, para_into_numbers, AreParaFromSites, AreParaIntoSites}
+use Rattle.sc_core_rules.proofs.StepLaws.{same_some}
 use Rattle.sc_resolve.specs.ByNumber.{AreByNumber}
 use Rattle.sc_resolve.specs.Extending.{Extends, Below}
 use Rattle.sc_resolve.proofs.Extending.{Rising, same}

@@ -2,31 +2,31 @@
 use Rattle.std.proofs.Common.{◌≡◌, ◌∙◌, sym, ap, subst, refl, ℕ, ◌+◌, ◌<◌, ◌⊎◌, inl, inr, List, [], ◌∷◌, ◌≤◌, length, map, sum, Option, Some, None, slice_get, Bool, true, false, arith}
 use Rattle.std.specs.Option.{is_some, IfNone}
 use Rattle.std.proofs.lemmas.Option.{slice_get_within}
-use Rattle.sc_data.specs.declared.SymId.{SymId}
-use Rattle.sc_data.specs.declared.Side.{Side}
-use Rattle.sc_data.specs.declared.Side.TheVariants.{Left, Right}
-use Rattle.sc_data.specs.declared.Term.{Term, Var}
-use Rattle.sc_data.specs.declared.Term.TheVariants.{App}
-use Rattle.sc_data.specs.declared.Literal.{Literal}
-use Rattle.sc_data.specs.declared.Clause.{Clause}
-use Rattle.sc_data.specs.declared.Numbered.{Numbered}
+use Rattle.sc_term.specs.declared.SymId.{SymId}
+use Rattle.sc_term.specs.declared.Side.{Side}
+use Rattle.sc_term.specs.declared.Side.TheVariants.{Left, Right}
+use Rattle.sc_term.specs.declared.Term.{Term, Var}
+use Rattle.sc_term.specs.declared.Term.TheVariants.{App}
+use Rattle.sc_term.specs.declared.Literal.{Literal}
+use Rattle.sc_term.specs.declared.Clause.{Clause}
+use Rattle.sc_term.specs.declared.Numbered.{Numbered}
 use Rattle.std.proofs.lemmas.List.{append-nil}
 use Rattle.std.proofs.lemmas.List.Sums.{sum_by-cons}
-use Rattle.sc_data.specs.Term.{term_weight}
-use Rattle.sc_data.specs.Clause.{width, literal_weight, IsWithinLimits}
+use Rattle.sc_term.specs.Term.{term_weight}
+use Rattle.sc_term.specs.Clause.{width, literal_weight, IsWithinLimits}
 use Rattle.sc_unify.proofs.JointLaws.{limits_kept}
 use Rattle.sc_para.proofs.WalkLaws.{one_of_sum}
-use Rattle.sc_data.specs.Path.{IsSubtermAt}
-use Rattle.sc_data.specs.Proof.{chosen}
-use Rattle.sc_data.specs.Refuted.{equation}
-use Rattle.sc_data.specs.Substitution.{Unify}
-use Rattle.sc_data.specs.JointInstance.{apart, shift, whole}
-use Rattle.sc_rules.specs.declared.site.ParaSite.{ParaSite}
-use Rattle.sc_rules.specs.Order.{IsBefore}
-use Rattle.sc_rules.specs.Pairing.{literal_at}
-use Rattle.sc_rules.specs.Inference.{Replacing, parent_clauses}
-use Rattle.sc_rules.specs.Paramodulation.{IsCompound, atom_with}
-use Rattle.sc_rules.proofs.StepLaws.{same_some}
+use Rattle.sc_term.specs.Path.{IsSubtermAt}
+use Rattle.sc_term.specs.Proof.{chosen}
+use Rattle.sc_term.specs.Refuted.{equation}
+use Rattle.sc_term.specs.Substitution.{Unify}
+use Rattle.sc_term.specs.JointInstance.{apart, shift, whole}
+use Rattle.sc_core_rules.specs.declared.site.ParaSite.{ParaSite}
+use Rattle.sc_core_rules.specs.Order.{IsBefore}
+use Rattle.sc_core_rules.specs.Pairing.{literal_at}
+use Rattle.sc_core_rules.specs.Inference.{Replacing, parent_clauses}
+use Rattle.sc_core_rules.specs.Paramodulation.{IsCompound, atom_with}
+use Rattle.sc_core_rules.proofs.StepLaws.{same_some}
 use Rattle.sc_resolve.specs.Extending.{Extends, Below}
 use Rattle.sc_resolve.specs.Literals.{pair_of}
 use Rattle.sc_resolve.specs.Binary.{renamed}

@@ -2,44 +2,44 @@
 use Rattle.std.proofs.Common.{◌≡◌, ◌∙◌, sym, ap, subst, refl, ℕ, inl, inr, List, [], ◌∷◌, ◌++◌, length, map, Option, Some, None, true, nat_eq, arith}
 use Rattle.std.specs.Prelude.{IsSomeAnd, MatchOption}
 use Rattle.std.specs.List.{position_or_len}
-use Rattle.sc_data.specs.declared.Side.{Side}
-use Rattle.sc_data.specs.declared.Side.TheVariants.{Left, Right}
-use Rattle.sc_data.specs.declared.SymId.{SymId}
-use Rattle.sc_data.specs.declared.Term.{Term}
-use Rattle.sc_data.specs.declared.Term.TheVariants.{App}
-use Rattle.sc_data.specs.declared.Literal.{Literal}
-use Rattle.sc_data.specs.declared.Clause.{Clause}
-use Rattle.sc_data.specs.declared.Line.{Line}
-use Rattle.sc_data.specs.declared.Numbered.{Numbered}
-use Rattle.sc_data.specs.declared.Step.TheVariants.{Para, Instance}
-use Rattle.sc_data.specs.Numbering.{numbered, with_element, without}
-use Rattle.sc_data.specs.Path.{IsSubtermAt, IsReplaced}
-use Rattle.sc_data.specs.Proof.{chosen, other, clause_of, IsParamodulant}
-use Rattle.sc_data.specs.Refuted.{equation, equals, Atom, atom_of}
-use Rattle.sc_data.specs.Term.{term_under}
-use Rattle.sc_data.specs.Clause.{width, instance, variables, firsts, IsCanonical, IsWithinLimits}
-use Rattle.sc_data.specs.Substitution.{Substitution, literal_under, clause_under, Unify}
-use Rattle.sc_data.specs.JointInstance.{IsJointInstance, apart, shift, canonical, renumbering}
-use Rattle.sc_data.proofs.RenamingLaws.{joint_instance_is_one}
-use Rattle.sc_data.proofs.TermSteps.{under-App}
-use Rattle.sc_steps.specs.declared.derivation.Derived.{Derived}
-use Rattle.sc_steps.specs.declared.made.Made.{Made}
+use Rattle.sc_term.specs.declared.Side.{Side}
+use Rattle.sc_term.specs.declared.Side.TheVariants.{Left, Right}
+use Rattle.sc_term.specs.declared.SymId.{SymId}
+use Rattle.sc_term.specs.declared.Term.{Term}
+use Rattle.sc_term.specs.declared.Term.TheVariants.{App}
+use Rattle.sc_term.specs.declared.Literal.{Literal}
+use Rattle.sc_term.specs.declared.Clause.{Clause}
+use Rattle.sc_term.specs.declared.Line.{Line}
+use Rattle.sc_term.specs.declared.Numbered.{Numbered}
+use Rattle.sc_term.specs.declared.Step.TheVariants.{Para, Instance}
+use Rattle.sc_term.specs.Numbering.{numbered, with_element, without}
+use Rattle.sc_term.specs.Path.{IsSubtermAt, IsReplaced}
+use Rattle.sc_term.specs.Proof.{chosen, other, clause_of, IsParamodulant}
+use Rattle.sc_term.specs.Refuted.{equation, equals, Atom, atom_of}
+use Rattle.sc_term.specs.Term.{term_under}
+use Rattle.sc_term.specs.Clause.{width, instance, variables, firsts, IsCanonical, IsWithinLimits}
+use Rattle.sc_term.specs.Substitution.{Substitution, literal_under, clause_under, Unify}
+use Rattle.sc_term.specs.JointInstance.{IsJointInstance, apart, shift, canonical, renumbering}
+use Rattle.sc_term.proofs.RenamingLaws.{joint_instance_is_one}
+use Rattle.sc_term.proofs.TermSteps.{under-App}
+use Rattle.sc_steps.specs.declared.derivations.derivation.Derived.{Derived}
+use Rattle.sc_steps.specs.declared.derivations.made.Made.{Made}
 use Rattle.sc_steps.specs.Derivation.{last_clause}
 use Rattle.sc_steps.proofs.LineLaws.{some_so}
 use Rattle.sc_unify.proofs.JointLaws.{limits_kept}
-use Rattle.sc_rules.specs.declared.site.ParaSite.{ParaSite}
-use Rattle.sc_rules.specs.Order.{Where}
-use Rattle.sc_rules.specs.Derivation.{Adds, AddsPart, AddsParts, AreTermsTo, EndsCanonical}
-use Rattle.sc_rules.specs.Inference.{Inference, Concludes, Ends, Replacing, parent_clauses}
-use Rattle.sc_rules.specs.Pairing.{literal_at}
-use Rattle.sc_rules.specs.Paramodulation.{atom_with, IsPara}
-use Rattle.sc_rules.proofs.StepLaws.{same_some, adds_one}
-use Rattle.sc_rules.proofs.DerivationLaws.{part_one}
+use Rattle.sc_core_rules.specs.declared.site.ParaSite.{ParaSite}
+use Rattle.sc_core_rules.specs.Order.{Where}
+use Rattle.sc_core_rules.specs.Derivation.{Adds, AddsPart, AddsParts, AreTermsTo, EndsCanonical}
+use Rattle.sc_core_rules.specs.Inference.{Inference, Concludes, Ends, Replacing, parent_clauses}
+use Rattle.sc_core_rules.specs.Pairing.{literal_at}
+use Rattle.sc_core_rules.specs.Paramodulation.{atom_with, IsPara}
+use Rattle.sc_core_rules.proofs.StepLaws.{same_some, adds_one}
+use Rattle.sc_core_rules.proofs.DerivationLaws.{part_one}
 use Rattle.sc_resolve.specs.Binary.{renamed}
 use Rattle.sc_resolve.specs.Literals.{pair_of}
 use Rattle.sc_resolve.specs.Made.{Makes}
 use Rattle.sc_resolve.specs.Parts.{AreJoint}
-use Rattle.sc_rules.proofs.SimplifyLaws.{subterm_one}
+use Rattle.sc_core_rules.proofs.SimplifyLaws.{subterm_one}
 use Rattle.sc_resolve.proofs.LineLaws.{last_is}
 use Rattle.sc_resolve.proofs.LiteralLaws.{apart_two}
 use Rattle.sc_resolve.proofs.PartLaws.{unified, numbered_map}

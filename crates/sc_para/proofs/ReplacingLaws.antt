@@ -1,13 +1,13 @@
 -- What becomes of arguments where a subterm is replaced.
 use Rattle.std.proofs.Common.{◌≡◌, ◌∙◌, sym, subst, refl, ℕ, List, [], ◌∷◌, Some}
-use Rattle.sc_data.specs.declared.SymId.{SymId}
-use Rattle.sc_data.specs.declared.Term.{Term}
-use Rattle.sc_data.specs.declared.Term.TheVariants.{App}
-use Rattle.sc_data.specs.Numbering.{numbered, with_element}
-use Rattle.sc_data.specs.Path.{IsSubtermAt, IsReplaced}
-use Rattle.sc_data.proofs.TermLaws.{App-injective}
+use Rattle.sc_term.specs.declared.SymId.{SymId}
+use Rattle.sc_term.specs.declared.Term.{Term}
+use Rattle.sc_term.specs.declared.Term.TheVariants.{App}
+use Rattle.sc_term.specs.Numbering.{numbered, with_element}
+use Rattle.sc_term.specs.Path.{IsSubtermAt, IsReplaced}
+use Rattle.sc_term.proofs.TermLaws.{App-injective}
 use Rattle.sc_steps.specs.Replacement.{IsTermReplaced}
-use Rattle.sc_rules.proofs.StepLaws.{same_some}
+use Rattle.sc_core_rules.proofs.StepLaws.{same_some}
 
 pub not_replaced : (args : List Term) (path : List ℕ) (n : ℕ) (rest : List ℕ) (old t : Term) → path ≡ n ∷ rest → Some old ≡ numbered args n
     → ((s new : Term) → ¬ IsTermReplaced old rest s t new) → (s : Term) (new : List Term) → ¬ IsReplaced args path s t new

@@ -4,20 +4,20 @@ use Rattle.std.specs.Prelude.{MatchOption}
 use Rattle.std.proofs.lemmas.List.{append-nil}
 use Rattle.std.proofs.lemmas.List.Sums.{sum_by-cons}
 use Rattle.std.proofs.lemmas.Option.{slice_get_within}
-use Rattle.sc_data.specs.declared.SymId.{SymId}
-use Rattle.sc_data.specs.declared.Term.{Term, Var}
-use Rattle.sc_data.specs.declared.Term.TheVariants.{App}
-use Rattle.sc_data.specs.declared.Literal.{Literal}
-use Rattle.sc_data.specs.Path.{IsSubtermAt}
-use Rattle.sc_data.specs.Refuted.{Atom}
-use Rattle.sc_data.specs.Term.{term_under, term_weight, weight_step}
-use Rattle.sc_data.specs.Substitution.{Unify}
-use Rattle.sc_data.proofs.TermLaws.{term_ind, fold-Var, weight-App, App-injective}
-use Rattle.sc_data.proofs.TermSteps.{under-App}
-use Rattle.sc_rules.specs.declared.site.ParaSite.{ParaSite}
-use Rattle.sc_rules.specs.Order.{IsBefore}
-use Rattle.sc_rules.specs.Paramodulation.{atom_with}
-use Rattle.sc_rules.proofs.StepLaws.{same_some}
+use Rattle.sc_term.specs.declared.SymId.{SymId}
+use Rattle.sc_term.specs.declared.Term.{Term, Var}
+use Rattle.sc_term.specs.declared.Term.TheVariants.{App}
+use Rattle.sc_term.specs.declared.Literal.{Literal}
+use Rattle.sc_term.specs.Path.{IsSubtermAt}
+use Rattle.sc_term.specs.Refuted.{Atom}
+use Rattle.sc_term.specs.Term.{term_under, term_weight, weight_step}
+use Rattle.sc_term.specs.Substitution.{Unify}
+use Rattle.sc_term.proofs.TermLaws.{term_ind, fold-Var, weight-App, App-injective}
+use Rattle.sc_term.proofs.TermSteps.{under-App}
+use Rattle.sc_core_rules.specs.declared.site.ParaSite.{ParaSite}
+use Rattle.sc_core_rules.specs.Order.{IsBefore}
+use Rattle.sc_core_rules.specs.Paramodulation.{atom_with}
+use Rattle.sc_core_rules.proofs.StepLaws.{same_some}
 use Rattle.sc_resolve.specs.Extending.{Extends, Below}
 use Rattle.sc_resolve.specs.Literals.{pair_of}
 use Rattle.sc_resolve.proofs.Extending.{Rising, same, both, nothing}

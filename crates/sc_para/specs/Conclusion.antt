@@ -1,22 +1,22 @@
 -- How a conclusion of paramodulation is made of the parts of its parents.
 use Rattle.std.specs.Prelude.{◌≡◌, ℕ, List, [], ◌∷◌, Some, true}
-use Rattle.sc_data.specs.declared.Side.{Side}
-use Rattle.sc_data.specs.declared.Term.{Term}
-use Rattle.sc_data.specs.declared.Literal.{Literal}
-use Rattle.sc_data.specs.declared.Clause.{Clause}
-use Rattle.sc_data.specs.declared.Line.{Line}
-use Rattle.sc_data.specs.declared.Numbered.{Numbered}
-use Rattle.sc_data.specs.declared.Step.TheVariants.{Para}
-use Rattle.sc_data.specs.Numbering.{numbered}
-use Rattle.sc_data.specs.Path.{IsSubtermAt, IsReplaced}
-use Rattle.sc_data.specs.Proof.{chosen, other, IsParamodulant}
-use Rattle.sc_data.specs.Refuted.{equation}
-use Rattle.sc_data.specs.Substitution.{Unify}
+use Rattle.sc_term.specs.declared.Side.{Side}
+use Rattle.sc_term.specs.declared.Term.{Term}
+use Rattle.sc_term.specs.declared.Literal.{Literal}
+use Rattle.sc_term.specs.declared.Clause.{Clause}
+use Rattle.sc_term.specs.declared.Line.{Line}
+use Rattle.sc_term.specs.declared.Numbered.{Numbered}
+use Rattle.sc_term.specs.declared.Step.TheVariants.{Para}
+use Rattle.sc_term.specs.Numbering.{numbered}
+use Rattle.sc_term.specs.Path.{IsSubtermAt, IsReplaced}
+use Rattle.sc_term.specs.Proof.{chosen, other, IsParamodulant}
+use Rattle.sc_term.specs.Refuted.{equation}
+use Rattle.sc_term.specs.Substitution.{Unify}
 use Rattle.sc_steps.specs.Derivation.{last_clause}
-use Rattle.sc_rules.specs.declared.site.ParaSite.{ParaSite}
-use Rattle.sc_rules.specs.Derivation.{Adds, AddsPart}
-use Rattle.sc_rules.specs.Inference.{Inference, Replacing}
-use Rattle.sc_rules.specs.Paramodulation.{atom_with}
+use Rattle.sc_core_rules.specs.declared.site.ParaSite.{ParaSite}
+use Rattle.sc_core_rules.specs.Derivation.{Adds, AddsPart}
+use Rattle.sc_core_rules.specs.Inference.{Inference, Replacing}
+use Rattle.sc_core_rules.specs.Paramodulation.{atom_with}
 use Rattle.sc_resolve.specs.Binary.{renamed}
 use Rattle.sc_resolve.specs.Literals.{pair_of}
 

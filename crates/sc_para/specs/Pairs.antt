@@ -1,13 +1,13 @@
 -- The sites of two clauses, loop by loop.
 use Rattle.std.specs.Prelude.{◌≡◌, ◌⊎◌, ℕ, ◌+◌, List, [], true, Some, slice_get, length}
-use Rattle.sc_data.specs.declared.Side.TheVariants.{Left, Right}
-use Rattle.sc_data.specs.declared.Term.{Term}
-use Rattle.sc_data.specs.declared.Literal.{Literal}
-use Rattle.sc_data.specs.declared.Numbered.{Numbered}
-use Rattle.sc_data.specs.Refuted.{equation}
-use Rattle.sc_rules.specs.declared.site.ParaSite.{ParaSite}
-use Rattle.sc_rules.specs.Inference.{Inference}
-use Rattle.sc_rules.specs.Paramodulation.{IsCompound, IsPara, atom_with}
+use Rattle.sc_term.specs.declared.Side.TheVariants.{Left, Right}
+use Rattle.sc_term.specs.declared.Term.{Term}
+use Rattle.sc_term.specs.declared.Literal.{Literal}
+use Rattle.sc_term.specs.declared.Numbered.{Numbered}
+use Rattle.sc_term.specs.Refuted.{equation}
+use Rattle.sc_core_rules.specs.declared.site.ParaSite.{ParaSite}
+use Rattle.sc_core_rules.specs.Inference.{Inference}
+use Rattle.sc_core_rules.specs.Paramodulation.{IsCompound, IsPara, atom_with}
 use Rattle.sc_resolve.specs.Extending.{Below}
 use Rattle.sc_para.specs.declared.spot.Spot.{Spot}
 use Rattle.sc_para.specs.Subterms.{IsUnder}

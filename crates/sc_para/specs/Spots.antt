@@ -1,7 +1,7 @@
 -- Sites by what they have beside their path.
 use Rattle.std.specs.Prelude.{ℕ, List, ◌∷◌}
-use Rattle.sc_rules.specs.declared.site.ParaSite.{ParaSite}
-use Rattle.sc_rules.specs.Paramodulation.{side_number}
+use Rattle.sc_core_rules.specs.declared.site.ParaSite.{ParaSite}
+use Rattle.sc_core_rules.specs.Paramodulation.{side_number}
 use Rattle.sc_para.specs.declared.spot.Spot.{Spot}
 
 -- the site with this path

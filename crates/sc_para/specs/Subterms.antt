@@ -1,13 +1,13 @@
 -- The sites of a side of an equation with the subterms of arguments, as they are walked.
 use Rattle.std.specs.Prelude.{◌≡◌, ◌⊎◌, ℕ, ◌+◌, List, [], ◌∷◌, ◌++◌, Some, slice_get}
-use Rattle.sc_data.specs.declared.SymId.{SymId}
-use Rattle.sc_data.specs.declared.Term.{Term}
-use Rattle.sc_data.specs.declared.Term.TheVariants.{App}
-use Rattle.sc_data.specs.declared.Literal.{Literal}
-use Rattle.sc_data.specs.Path.{IsSubtermAt}
-use Rattle.sc_data.specs.Substitution.{Unify}
-use Rattle.sc_rules.specs.declared.site.ParaSite.{ParaSite}
-use Rattle.sc_rules.specs.Paramodulation.{IsCompound, atom_with}
+use Rattle.sc_term.specs.declared.SymId.{SymId}
+use Rattle.sc_term.specs.declared.Term.{Term}
+use Rattle.sc_term.specs.declared.Term.TheVariants.{App}
+use Rattle.sc_term.specs.declared.Literal.{Literal}
+use Rattle.sc_term.specs.Path.{IsSubtermAt}
+use Rattle.sc_term.specs.Substitution.{Unify}
+use Rattle.sc_core_rules.specs.declared.site.ParaSite.{ParaSite}
+use Rattle.sc_core_rules.specs.Paramodulation.{IsCompound, atom_with}
 use Rattle.sc_resolve.specs.Literals.{pair_of}
 use Rattle.sc_para.specs.declared.spot.Spot.{Spot}
 use Rattle.sc_para.specs.Spots.{site_at}

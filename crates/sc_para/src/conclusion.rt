@@ -1,23 +1,24 @@
 //! Conclusions of paramodulation.
 
 ghost use Rattle.std.specs.Prelude.{◌≡◌, ◌≢◌, ◌<◌, ◌≤◌, ◌++◌, length, Some, true, IfOk, IfSome, IfNone, IsSomeAnd, MatchOption};
-ghost use Rattle.sc_data.specs.declared.Term.{Term as ATerm};
-ghost use Rattle.sc_data.specs.Numbering.{numbered, with_element, without};
-ghost use Rattle.sc_data.specs.Proof.{chosen, other};
-ghost use Rattle.sc_data.specs.Refuted.{equation};
-ghost use Rattle.sc_data.specs.Clause.{IsWithinLimits};
+ghost use Rattle.sc_term.specs.declared.Term.{Term as ATerm};
+ghost use Rattle.sc_term.specs.Numbering.{numbered, with_element, without};
+ghost use Rattle.sc_term.specs.Proof.{chosen, other};
+ghost use Rattle.sc_term.specs.Refuted.{equation};
+ghost use Rattle.sc_term.specs.Clause.{IsWithinLimits};
 ghost use Rattle.sc_steps.specs.Derivation.{last_clause};
-ghost use Rattle.sc_rules.specs.Derivation.{AreTermsTo, EndsCanonical};
+ghost use Rattle.sc_core_rules.specs.Derivation.{AreTermsTo, EndsCanonical};
 ghost use Rattle.sc_para.specs.Conclusion.{AreSidesOf, IsFitting, IsChanged, IsParamodulantOf, AreReplacing};
 
 use crate::pairs::positive_sides;
 use crate::replacing::replaced;
-use sc_data::{Clause, Line, Literal, Numbered, Side, Step, Term};
+use sc_core_rules::ParaSite;
 use sc_resolve::{Part, add_line, add_part, finish, literal};
-use sc_rules::ParaSite;
 use sc_steps::Made;
-use sc_term::{MAX_DEPTH, MAX_WEIGHT, Mem, copy, depth, weight};
-use sqlite_items::Items;
+use sc_term::{
+    Clause, Line, List, Literal, MAX_DEPTH, MAX_WEIGHT, Mem, Numbered, Side, Step, Term, copy,
+    depth, weight,
+};
 use std::alloc::Global;
 
 /// The chosen side, and then the other.
@@ -90,7 +91,7 @@ fn joined(left: Clause, a: u32, right: Clause, b: u32, changed: Literal) -> Mem<
 /// The lines up to the step of paramodulation, and the clause of the last.
 #[derive(Drop)]
 pub struct Steps {
-    pub lines: Items<Line>,
+    pub lines: List<Line>,
     pub clause: Clause,
 }
 
@@ -112,7 +113,7 @@ pub fn replacing(
     let Some(changed) = changed_literal(alloc, &left.clause, &right.clause, site)? else {
         return Ok(None);
     };
-    let mut lines = Items::new(alloc);
+    let mut lines = List::new(alloc);
     let of_left = add_part(alloc, &mut lines, from, left.terms, &left.clause)?;
     let of_right = add_part(alloc, &mut lines, into, right.terms, &right.clause)?;
     let clause = joined(
@@ -128,7 +129,7 @@ pub fn replacing(
         side: site.side,
         into: of_right,
         into_lit: site.into_lit,
-        path: Items::from_slice(alloc, site.path.as_slice())?,
+        path: List::from_slice(alloc, site.path.as_slice())?,
     };
     let line = copy(alloc, &clause)?;
     add_line(&mut lines, step, line)?;

@@ -1,6 +1,6 @@
 //! Paramodulation: the sites from and into a given clause, and the conclusions of sites with their derivations.
 //!
-//! It stands on `sc_rules`, whose definitions of sites, inferences and conclusions (`Paramodulation`, `Inference`,
+//! It stands on `sc_core_rules`, whose definitions of sites, inferences and conclusions (`Paramodulation`, `Inference`,
 //! `Derivation`) the contracts cite, on `sc_resolve` for how lists of sites grow and how derivations are put together,
 //! on `sc_unify` for unifiers, on `sc_term` and on `sc_steps`, whose `Made` keeps that the last line has the conclusion.
 //!
@@ -22,6 +22,3 @@ mod subterms;
 
 pub use listing::{para_from_sites, para_into_sites};
 pub use making::make_para;
-
-#[cfg(test)]
-mod tests;

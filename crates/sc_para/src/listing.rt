@@ -1,16 +1,14 @@
 //! The sites of paramodulation from and into the given clause.
 
 ghost use Rattle.std.specs.Prelude.{◌≢◌, ◌<◌, IfOk, All, AllPairs};
-ghost use Rattle.sc_rules.specs.Paramodulation.{AreParaFromSites, AreParaIntoSites};
+ghost use Rattle.sc_core_rules.specs.Paramodulation.{AreParaFromSites, AreParaIntoSites};
 ghost use Rattle.sc_resolve.specs.ByNumber.{seen};
 ghost use Rattle.sc_resolve.specs.Kept.{IsKept};
 
 use crate::pairs::add_with_pair;
-use sc_data::Numbered;
+use sc_core_rules::ParaSite;
 use sc_resolve::by_number;
-use sc_rules::ParaSite;
-use sc_term::Mem;
-use sqlite_items::Items;
+use sc_term::{List, Mem, Numbered};
 use std::alloc::Global;
 
 /// `para_from_sites` into partners in rising order of their numbers.
@@ -19,13 +17,13 @@ fn from_sites_in_order(
     given: &Numbered,
     partners: &[&Numbered],
     limit: u32,
-) -> Mem<Items<ParaSite>>
+) -> Mem<List<ParaSite>>
     requires rising { AllPairs (λ p q. p.number < q.number) (seen partners.now) }
     requires given { IsKept given.now.clause }
     requires kept { All (λ p. IsKept p.clause) (seen partners.now) }
     ensures { IfOk result (λ sites. AreParaFromSites given.now (seen partners.now) limit sites) }
 {
-    let mut sites = Items::new(alloc);
+    let mut sites = List::new(alloc);
     for into in partners {
         if sites.len() >= limit as usize {
             return Ok(sites);
@@ -42,9 +40,9 @@ fn from_sites_in_order(
 pub fn para_from_sites(
     alloc: Global,
     given: &Numbered,
-    usable: &Items<Numbered>,
+    usable: &List<Numbered>,
     limit: u32,
-) -> Mem<Items<ParaSite>>
+) -> Mem<List<ParaSite>>
     requires differ { AllPairs (λ p q. p.number ≢ q.number) usable.now }
     requires given { IsKept given.now.clause }
     requires kept { All (λ p. IsKept p.clause) usable.now }
@@ -60,13 +58,13 @@ fn into_sites_in_order(
     given: &Numbered,
     partners: &[&Numbered],
     limit: u32,
-) -> Mem<Items<ParaSite>>
+) -> Mem<List<ParaSite>>
     requires rising { AllPairs (λ p q. p.number < q.number) (seen partners.now) }
     requires given { IsKept given.now.clause }
     requires kept { All (λ p. IsKept p.clause) (seen partners.now) }
     ensures { IfOk result (λ sites. AreParaIntoSites given.now (seen partners.now) limit sites) }
 {
-    let mut sites = Items::new(alloc);
+    let mut sites = List::new(alloc);
     for from in partners {
         if sites.len() >= limit as usize {
             return Ok(sites);
@@ -83,9 +81,9 @@ fn into_sites_in_order(
 pub fn para_into_sites(
     alloc: Global,
     given: &Numbered,
-    usable: &Items<Numbered>,
+    usable: &List<Numbered>,
     limit: u32,
-) -> Mem<Items<ParaSite>>
+) -> Mem<List<ParaSite>>
     requires differ { AllPairs (λ p q. p.number ≢ q.number) usable.now }
     requires given { IsKept given.now.clause }
     requires kept { All (λ p. IsKept p.clause) usable.now }

@@ -1,12 +1,12 @@
 //! The conclusion of a site of paramodulation.
 
 ghost use Rattle.std.specs.Prelude.{◌≡◌, ◌∷◌, [], IfOk, MatchOption};
-ghost use Rattle.sc_data.specs.Clause.{width};
-ghost use Rattle.sc_data.specs.JointInstance.{shift};
-ghost use Rattle.sc_data.specs.Substitution.{Unify};
-ghost use Rattle.sc_rules.specs.Derivation.{AreTermsTo};
-ghost use Rattle.sc_rules.specs.Inference.{Inference};
-ghost use Rattle.sc_rules.specs.Paramodulation.{IsPara};
+ghost use Rattle.sc_term.specs.Clause.{width};
+ghost use Rattle.sc_term.specs.JointInstance.{shift};
+ghost use Rattle.sc_term.specs.Substitution.{Unify};
+ghost use Rattle.sc_core_rules.specs.Derivation.{AreTermsTo};
+ghost use Rattle.sc_core_rules.specs.Inference.{Inference};
+ghost use Rattle.sc_core_rules.specs.Paramodulation.{IsPara};
 ghost use Rattle.sc_resolve.specs.Kept.{IsKept};
 ghost use Rattle.sc_resolve.specs.Literals.{pair_of};
 ghost use Rattle.sc_resolve.specs.Made.{Makes};
@@ -16,11 +16,10 @@ ghost use Rattle.sc_para.specs.Conclusion.{AreReplaced, replacement};
 use crate::conclusion::{ended, replacing, sides_of};
 use crate::replacing::subterm_at;
 use crate::subterms::atom_with;
-use sc_data::{Clause, Literal, Numbered};
+use sc_core_rules::ParaSite;
 use sc_resolve::{Both, Part, joint_two, literal, part_of};
-use sc_rules::ParaSite;
 use sc_steps::Made;
-use sc_term::{Mem, shift, width};
+use sc_term::{Clause, Literal, Mem, Numbered, shift, width};
 use std::alloc::Global;
 
 /// The parts of two parents.

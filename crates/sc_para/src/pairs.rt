@@ -1,9 +1,9 @@
 //! The sites of two clauses.
 
 ghost use Rattle.std.specs.Prelude.{◌≡◌, ◌≢◌, ◌≤◌, ℕ, length, sum, map, true, false, slice_get, Some, OnOk, IfSome, IfNone};
-ghost use Rattle.sc_data.specs.Clause.{literal_weight};
-ghost use Rattle.sc_data.specs.Refuted.{equation};
-ghost use Rattle.sc_data.specs.declared.Term.{Term as ATerm};
+ghost use Rattle.sc_term.specs.Clause.{literal_weight};
+ghost use Rattle.sc_term.specs.Refuted.{equation};
+ghost use Rattle.sc_term.specs.declared.Term.{Term as ATerm};
 ghost use Rattle.sc_steps.specs.Replacement.{AreSides};
 ghost use Rattle.sc_resolve.specs.Extending.{Extends, Below};
 ghost use Rattle.sc_resolve.specs.Kept.{IsKept};
@@ -12,11 +12,9 @@ ghost use Rattle.sc_para.specs.Subterms.{IsHeaded};
 ghost use Rattle.sc_para.specs.Pairs.{IsWithTarget, IsWithSide, IsWithEquation, IsWithSource, IsWithLiteral, IsPairSite};
 
 use crate::spot::Spot;
-use crate::subterms::{EQUALS, add_under, atom_with};
-use sc_data::{Literal, Numbered, Side, SymId, Term};
-use sc_rules::ParaSite;
-use sc_term::{Mem, shift, width};
-use sqlite_items::Items;
+use crate::subterms::{add_under, atom_with};
+use sc_core_rules::ParaSite;
+use sc_term::{EQUALS, List, Literal, Mem, Numbered, Side, SymId, Term, shift, width};
 use std::alloc::Global;
 
 /// Adds the sites of the argument of the atom, which begins with `head`, with the subterms of the literals, while there
@@ -28,7 +26,7 @@ fn add_with_targets(
     spot: Spot,
     literals: &[Literal],
     limit: usize,
-    sites: &mut Items<ParaSite>,
+    sites: &mut List<ParaSite>,
 ) -> Mem<()>
     requires headed { IsHeaded head source.now }
     requires light { sum (map literal_weight literals.now) ≤ 10000 }
@@ -42,7 +40,7 @@ fn add_with_targets(
             into_lit: at as u32 + 1,
             ..spot
         };
-        let mut path = Items::new(alloc);
+        let mut path = List::new(alloc);
         let args = literals[at].args.as_slice();
         add_under(alloc, source, head, here, args, &mut path, limit, sites)?;
     }
@@ -56,7 +54,7 @@ fn add_with_side(
     spot: Spot,
     literals: &[Literal],
     limit: usize,
-    sites: &mut Items<ParaSite>,
+    sites: &mut List<ParaSite>,
 ) -> Mem<()>
     requires { sum (map literal_weight literals.now) ≤ 10000 }
     ensures { OnOk result (Extends pair_numbers (IsWithSide spot side.now literals.now) limit sites.old sites.new) }
@@ -78,7 +76,7 @@ fn add_with_equation(
     spot: Spot,
     literals: &[Literal],
     limit: usize,
-    sites: &mut Items<ParaSite>,
+    sites: &mut List<ParaSite>,
 ) -> Mem<()>
     requires { sum (map literal_weight literals.now) ≤ 10000 }
     ensures { OnOk result (Extends pair_numbers (IsWithEquation spot left.now right.now literals.now) limit sites.old sites.new) }
@@ -121,7 +119,7 @@ fn add_with_source(
     spot: Spot,
     literals: &[Literal],
     limit: usize,
-    sites: &mut Items<ParaSite>,
+    sites: &mut List<ParaSite>,
 ) -> Mem<()>
     requires { sum (map literal_weight literals.now) ≤ 10000 }
     ensures { OnOk result (Extends pair_numbers (IsWithSource spot l.now literals.now) limit sites.old sites.new) }
@@ -141,7 +139,7 @@ fn add_with_sources(
     spot: Spot,
     literals: &[Literal],
     limit: usize,
-    sites: &mut Items<ParaSite>,
+    sites: &mut List<ParaSite>,
 ) -> Mem<()>
     requires few { length sources.now ≤ 10000 }
     requires light { sum (map literal_weight literals.now) ≤ 10000 }
@@ -179,7 +177,7 @@ pub fn add_with_pair(
     from: &Numbered,
     into: &Numbered,
     limit: usize,
-    sites: &mut Items<ParaSite>,
+    sites: &mut List<ParaSite>,
 ) -> Mem<()>
     requires from { IsKept from.now.clause }
     requires into { IsKept into.now.clause }

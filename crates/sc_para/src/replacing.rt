@@ -1,15 +1,13 @@
 //! Subterms by their path, and what becomes of arguments where one is replaced.
 
-ghost use Rattle.std.specs.Prelude.{◌≡◌, ◌≢◌, ◌<◌, ◌≤◌, ◌++◌, List, length, slice_set, true, IfOk, IfSome, IfNone, OnSome, MatchOption};
+ghost use Rattle.std.specs.Prelude.{◌≡◌, ◌≢◌, ◌<◌, ◌≤◌, ◌++◌, List as AList, length, slice_set, true, IfOk, IfSome, IfNone, OnSome, MatchOption};
 ghost use Rattle.std.specs.Option.{option_copied};
-ghost use Rattle.sc_data.specs.declared.Term.{Term as ATerm};
-ghost use Rattle.sc_data.specs.Numbering.{numbered};
-ghost use Rattle.sc_data.specs.Path.{IsSubtermAt, IsReplaced};
+ghost use Rattle.sc_term.specs.declared.Term.{Term as ATerm};
+ghost use Rattle.sc_term.specs.Numbering.{numbered};
+ghost use Rattle.sc_term.specs.Path.{IsSubtermAt, IsReplaced};
 ghost use Rattle.sc_steps.specs.Replacement.{IsTermReplaced};
 
-use sc_data::Term;
-use sc_term::{Mem, copy_term, copy_terms};
-use sqlite_items::Items;
+use sc_term::{List, Mem, Term, copy_term, copy_terms};
 use std::alloc::Global;
 
 /// Argument number n, from 1.
@@ -46,7 +44,7 @@ pub fn subterm_at<'a>(args: &'a [Term], path: &[u32]) -> Option<&'a Term>
 }
 
 /// The arguments with another one at this place.
-fn with_argument(alloc: Global, args: &[Term], at: usize, changed: Term) -> Mem<Items<Term>>
+fn with_argument(alloc: Global, args: &[Term], at: usize, changed: Term) -> Mem<List<Term>>
     requires { at < length args.now }
     ensures { IfOk result (λ all. all ≡ slice_set args.now at changed) }
 {
@@ -75,8 +73,8 @@ fn replaced_within(alloc: Global, old: &Term, path: &[u32], t: &Term) -> Mem<Opt
 
 /// The arguments with the subterm at the path replaced by t, or None where there is none.
 #[cycle(replace)]
-pub fn replaced(alloc: Global, args: &[Term], path: &[u32], t: &Term) -> Mem<Option<Items<Term>>>
-    ensures { IfOk result (λ found. MatchOption found ((s : ATerm) (new : List ATerm) → ¬ IsReplaced args.now path.now s t.now new) (λ new. (s : ATerm) × IsReplaced args.now path.now s t.now new)) }
+pub fn replaced(alloc: Global, args: &[Term], path: &[u32], t: &Term) -> Mem<Option<List<Term>>>
+    ensures { IfOk result (λ found. MatchOption found ((s : ATerm) (new : AList ATerm) → ¬ IsReplaced args.now path.now s t.now new) (λ new. (s : ATerm) × IsReplaced args.now path.now s t.now new)) }
 {
     let Some((n, rest)) = path.split_first() else {
         return Ok(None);

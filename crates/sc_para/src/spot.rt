@@ -3,10 +3,8 @@
 ghost use Rattle.std.specs.Prelude.{◌≡◌, IfOk};
 ghost use Rattle.sc_para.specs.Spots.{site_at};
 
-use sc_data::Side;
-use sc_rules::ParaSite;
-use sc_term::Mem;
-use sqlite_items::Items;
+use sc_core_rules::ParaSite;
+use sc_term::{List, Mem, Side};
 use std::alloc::Global;
 
 /// All of a site but its path.
@@ -29,6 +27,6 @@ pub fn site_at(alloc: Global, spot: Spot, path: &[u32]) -> Mem<ParaSite>
         side: spot.side,
         into: spot.into,
         into_lit: spot.into_lit,
-        path: Items::from_slice(alloc, path)?,
+        path: List::from_slice(alloc, path)?,
     })
 }

@@ -1,27 +1,23 @@
 //! The walk over subterms.
 
 ghost use Rattle.std.specs.Prelude.{◌≡◌, ◌↔◌, ◌≤◌, sum, map, IfOk, OnOk, IsTrue};
-ghost use Rattle.sc_data.specs.Term.{term_weight};
-ghost use Rattle.sc_rules.specs.Paramodulation.{atom_with};
+ghost use Rattle.sc_term.specs.Term.{term_weight};
+ghost use Rattle.sc_core_rules.specs.Paramodulation.{atom_with};
 ghost use Rattle.sc_resolve.specs.Extending.{Extends};
 ghost use Rattle.sc_para.specs.Spots.{pair_numbers};
 ghost use Rattle.sc_para.specs.Subterms.{IsHeaded, IsTarget, IsHere, IsWithin, IsUnder};
 
 use crate::spot::{Spot, site_at};
-use sc_data::{Literal, SymId, Term};
-use sc_rules::ParaSite;
-use sc_term::{Mem, copy_term};
+use sc_core_rules::ParaSite;
+use sc_term::{EQUALS, List, Literal, Mem, SymId, Term, copy_term};
 use sc_unify::unify;
-use sqlite_items::Items;
 use std::alloc::Global;
-
-pub const EQUALS: SymId = SymId(0);
 
 /// The term as the one argument of an atom.
 pub fn atom_with(alloc: Global, t: &Term) -> Mem<Literal>
     ensures { IfOk result (λ l. l ≡ atom_with t.now) }
 {
-    let mut args = Items::new(alloc);
+    let mut args = List::new(alloc);
     args.push(copy_term(alloc, t)?)?;
     Ok(Literal {
         positive: true,
@@ -57,7 +53,7 @@ fn add_here(
     t: &Term,
     path: &[u32],
     limit: usize,
-    sites: &mut Items<ParaSite>,
+    sites: &mut List<ParaSite>,
 ) -> Mem<()>
     requires { IsHeaded head source.now }
     ensures { OnOk result (Extends pair_numbers (IsHere source.now spot path.now t.now) limit sites.old sites.new) }
@@ -79,9 +75,9 @@ fn add_within(
     head: SymId,
     spot: Spot,
     t: &Term,
-    path: &mut Items<u32>,
+    path: &mut List<u32>,
     limit: usize,
-    sites: &mut Items<ParaSite>,
+    sites: &mut List<ParaSite>,
 ) -> Mem<()>
     requires headed { IsHeaded head source.now }
     requires light { term_weight t.now ≤ 10000 }
@@ -115,9 +111,9 @@ pub fn add_under(
     head: SymId,
     spot: Spot,
     args: &[Term],
-    path: &mut Items<u32>,
+    path: &mut List<u32>,
     limit: usize,
-    sites: &mut Items<ParaSite>,
+    sites: &mut List<ParaSite>,
 ) -> Mem<()>
     requires headed { IsHeaded head source.now }
     requires light { sum (map term_weight args.now) ≤ 10000 }

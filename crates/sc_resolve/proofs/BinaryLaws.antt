@@ -3,21 +3,21 @@ use Rattle.std.proofs.Common.{◌≡◌, ◌∙◌, sym, ap, subst, refl, ℕ, �
 use Rattle.std.specs.Prelude.{AllPairs, Contains}
 use Rattle.std.proofs.lemmas.Option.{slice_get_within, get_or_from_slice_get}
 use Rattle.std.specs.List.{list_any}
-use Rattle.sc_data.specs.declared.Term.{Var}
-use Rattle.sc_data.specs.declared.Literal.{Literal}
-use Rattle.sc_data.specs.declared.Clause.{Clause}
-use Rattle.sc_data.specs.declared.Numbered.{Numbered}
-use Rattle.sc_data.specs.Clause.{width}
-use Rattle.sc_data.specs.Substitution.{Unify}
-use Rattle.sc_data.specs.JointInstance.{apart, shift}
-use Rattle.sc_rules.specs.declared.site.BinarySite.{BinarySite}
-use Rattle.sc_rules.specs.Order.{IsBefore}
-use Rattle.sc_rules.specs.Pairing.{ArePairs, HaveOppositeSigns, places_in}
-use Rattle.sc_rules.specs.Inference.{Inference, Resolving}
-use Rattle.sc_rules.specs.Resolution.{IsBinary, binary_numbers, AreBinarySites}
-use Rattle.sc_rules.proofs.PairLaws.{opposite_one}
-use Rattle.sc_rules.proofs.StepLaws.{same_some}
-use Rattle.sc_rules.proofs.FactorExample.{one_pair}
+use Rattle.sc_term.specs.declared.Term.{Var}
+use Rattle.sc_term.specs.declared.Literal.{Literal}
+use Rattle.sc_term.specs.declared.Clause.{Clause}
+use Rattle.sc_term.specs.declared.Numbered.{Numbered}
+use Rattle.sc_term.specs.Clause.{width}
+use Rattle.sc_term.specs.Substitution.{Unify}
+use Rattle.sc_term.specs.JointInstance.{apart, shift}
+use Rattle.sc_core_rules.specs.declared.site.BinarySite.{BinarySite}
+use Rattle.sc_core_rules.specs.Order.{IsBefore}
+use Rattle.sc_core_rules.specs.Pairing.{ArePairs, HaveOppositeSigns, places_in}
+use Rattle.sc_core_rules.specs.Inference.{Inference, Resolving}
+use Rattle.sc_core_rules.specs.Resolution.{IsBinary, binary_numbers, AreBinarySites}
+use Rattle.sc_core_rules.proofs.PairLaws.{opposite_one}
+use Rattle.sc_core_rules.proofs.StepLaws.{same_some}
+use Rattle.sc_core_rules.proofs.FactorExample.{one_pair}
 use Rattle.sc_resolve.specs.ByNumber.{AreByNumber}
 use Rattle.sc_resolve.specs.Extending.{Extends, Below}
 use Rattle.sc_resolve.specs.Literals.{pair_of, may_resolve, AreResolvable}

@@ -4,18 +4,18 @@ use Rattle.std.specs.List.{AllByRecursion, Contains, list_any, position_or_len}
 use Rattle.std.proofs.lemmas.Bool.{eqb-true, eqb-false, lt-ltb, le-ltb}
 use Rattle.std.proofs.lemmas.Option.{get_or_from_slice_get}
 use Rattle.std.proofs.lemmas.List.{append-nil}
-use Rattle.sc_data.specs.declared.Term.{Term, Var}
-use Rattle.sc_data.specs.declared.Term.TheVariants.{App}
-use Rattle.sc_data.specs.declared.Literal.{Literal}
-use Rattle.sc_data.specs.declared.Clause.{Clause}
-use Rattle.sc_data.specs.declared.Line.{Line}
-use Rattle.sc_data.specs.declared.Step.TheVariants.{Instance}
-use Rattle.sc_data.specs.Term.{largest, joined, term_width, term_variables, value_of}
-use Rattle.sc_data.specs.Clause.{literal_width, width, variables, firsts, firsts_after, counting_from, instance, IsCanonical, IsWithinLimits}
-use Rattle.sc_data.specs.JointInstance.{canonical, renumbering, whole}
-use Rattle.sc_data.proofs.TermLaws.{term_ind, width-Var, width-App}
-use Rattle.sc_data.proofs.TermSteps.{variables-Var, variables-App}
-use Rattle.sc_data.proofs.SubstitutionLaws.{clause_laws, all_join, all_of, literal_variables}
+use Rattle.sc_term.specs.declared.Term.{Term, Var}
+use Rattle.sc_term.specs.declared.Term.TheVariants.{App}
+use Rattle.sc_term.specs.declared.Literal.{Literal}
+use Rattle.sc_term.specs.declared.Clause.{Clause}
+use Rattle.sc_term.specs.declared.Line.{Line}
+use Rattle.sc_term.specs.declared.Step.TheVariants.{Instance}
+use Rattle.sc_term.specs.Term.{largest, joined, term_width, term_variables, value_of}
+use Rattle.sc_term.specs.Clause.{literal_width, width, variables, firsts, firsts_after, counting_from, instance, IsCanonical, IsWithinLimits}
+use Rattle.sc_term.specs.JointInstance.{canonical, renumbering, whole}
+use Rattle.sc_term.proofs.TermLaws.{term_ind, width-Var, width-App}
+use Rattle.sc_term.proofs.TermSteps.{variables-Var, variables-App}
+use Rattle.sc_term.proofs.SubstitutionLaws.{clause_laws, all_join, all_of, literal_variables}
 use Rattle.sc_term.specs.Occurrence.{noted}
 use Rattle.sc_term.proofs.Occurrences.{noted-firsts}
 use Rattle.sc_steps.specs.Derivation.{last_clause}
@@ -23,10 +23,10 @@ use Rattle.sc_steps.proofs.LineLaws.{some_so}
 use Rattle.sc_unify.proofs.TermFacts.{all_so}
 use Rattle.sc_unify.proofs.JointLaws.{limits_kept}
 use Rattle.sc_interp.proofs.Width.{canonical_width}
-use Rattle.sc_rules.specs.Order.{Where}
-use Rattle.sc_rules.specs.Derivation.{Adds, AreTermsTo, EndsCanonical}
-use Rattle.sc_rules.proofs.OrderLaws.{first_or_later, later}
-use Rattle.sc_rules.proofs.DerivationLaws.{at_found}
+use Rattle.sc_core_rules.specs.Order.{Where}
+use Rattle.sc_core_rules.specs.Derivation.{Adds, AreTermsTo, EndsCanonical}
+use Rattle.sc_term.proofs.ContainsLaws.{first_or_later, later}
+use Rattle.sc_core_rules.proofs.DerivationLaws.{at_found}
 use Rattle.sc_resolve.specs.Lines.{IsAdded}
 use Rattle.sc_resolve.specs.Canonical.{place_in}
 use Rattle.sc_resolve.proofs.LineLaws.{adds_instance_of}

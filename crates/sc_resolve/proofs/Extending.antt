@@ -3,10 +3,10 @@ use Rattle.std.proofs.Common.{◌≡◌, ◌∙◌, sym, ap, subst, ℕ, ◌+◌
 use Rattle.std.specs.List.{Contains, All}
 use Rattle.std.proofs.lemmas.List.{append-nil}
 use Rattle.std.proofs.lemmas.List.Elements.{All-append}
-use Rattle.sc_rules.specs.Order.{IsBefore}
-use Rattle.sc_rules.proofs.NestLaws.{pairs_append}
-use Rattle.sc_rules.proofs.FilterLaws.{in_first, in_second}
-use Rattle.sc_rules.proofs.Enumerations.{all_of_one, pairs_of_one}
+use Rattle.sc_core_rules.specs.Order.{IsBefore}
+use Rattle.sc_core_rules.proofs.NestLaws.{pairs_append}
+use Rattle.sc_core_rules.proofs.FilterLaws.{in_first, in_second}
+use Rattle.sc_core_rules.proofs.Enumerations.{all_of_one, pairs_of_one}
 use Rattle.sc_resolve.specs.Extending.{Extends, Below}
 
 abbrev pub Rising : {X : Type 0} → (X → List ℕ) → (ℕ → X → Type 0) → Type 0

@@ -1,20 +1,20 @@
 -- The sites that the loops of factoring find are its sites.
 use Rattle.std.proofs.Common.{◌≡◌, ◌∙◌, sym, subst, refl, ℕ, ◌+◌, ◌-◌, ◌<◌, inl, inr, List, [], ◌∷◌, ◌++◌, length, map, Some, slice_get, arith}
 use Rattle.std.proofs.lemmas.Option.{slice_get_within}
-use Rattle.sc_data.specs.declared.Literal.{Literal}
-use Rattle.sc_data.specs.declared.Clause.{Clause}
-use Rattle.sc_data.specs.declared.Numbered.{Numbered}
-use Rattle.sc_data.specs.declared.Pair.{Pair}
-use Rattle.sc_data.specs.Substitution.{Unify}
-use Rattle.sc_data.specs.JointInstance.{apart}
-use Rattle.sc_rules.specs.declared.site.FactorSite.{FactorSite}
-use Rattle.sc_rules.specs.Order.{IsBefore}
-use Rattle.sc_rules.specs.Pairing.{ArePairs, HaveSameSigns, places_in}
-use Rattle.sc_rules.specs.Inference.{Inference, Merging}
-use Rattle.sc_rules.specs.Resolution.{IsFactor, factor_numbers, AreFactorSites}
-use Rattle.sc_rules.proofs.Enumerations.{all_of_one}
-use Rattle.sc_rules.proofs.StepLaws.{same_some}
-use Rattle.sc_rules.proofs.FactorExample.{one_pair}
+use Rattle.sc_term.specs.declared.Literal.{Literal}
+use Rattle.sc_term.specs.declared.Clause.{Clause}
+use Rattle.sc_term.specs.declared.Numbered.{Numbered}
+use Rattle.sc_term.specs.declared.Pair.{Pair}
+use Rattle.sc_term.specs.Substitution.{Unify}
+use Rattle.sc_term.specs.JointInstance.{apart}
+use Rattle.sc_core_rules.specs.declared.site.FactorSite.{FactorSite}
+use Rattle.sc_core_rules.specs.Order.{IsBefore}
+use Rattle.sc_core_rules.specs.Pairing.{ArePairs, HaveSameSigns, places_in}
+use Rattle.sc_core_rules.specs.Inference.{Inference, Merging}
+use Rattle.sc_core_rules.specs.Resolution.{IsFactor, factor_numbers, AreFactorSites}
+use Rattle.sc_core_rules.proofs.Enumerations.{all_of_one}
+use Rattle.sc_core_rules.proofs.StepLaws.{same_some}
+use Rattle.sc_core_rules.proofs.FactorExample.{one_pair}
 use Rattle.sc_resolve.specs.Extending.{Extends, Below}
 use Rattle.sc_resolve.specs.Literals.{pair_of, AreMergeable}
 use Rattle.sc_resolve.specs.Factor.{IsWithSecond, IsWithFirst}

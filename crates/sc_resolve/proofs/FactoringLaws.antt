@@ -1,24 +1,24 @@
 -- The conclusion of factoring, put together.
 use Rattle.std.proofs.Common.{◌≡◌, ◌∙◌, subst, refl, ℕ, ◌-◌, List, [], ◌∷◌, ◌++◌, take, map, Some, arith}
 use Rattle.std.specs.List.{Contains}
-use Rattle.sc_data.specs.declared.Literal.{Literal}
-use Rattle.sc_data.specs.declared.Clause.{Clause}
-use Rattle.sc_data.specs.declared.Line.{Line}
-use Rattle.sc_data.specs.declared.Numbered.{Numbered}
-use Rattle.sc_data.specs.declared.Step.TheVariants.{Merge}
-use Rattle.sc_data.specs.Numbering.{numbered, without}
-use Rattle.sc_data.specs.Proof.{IsMerged, clause_of}
-use Rattle.sc_data.specs.Substitution.{Unify}
-use Rattle.sc_data.specs.JointInstance.{apart}
-use Rattle.sc_steps.specs.declared.made.Made.{Made}
+use Rattle.sc_term.specs.declared.Literal.{Literal}
+use Rattle.sc_term.specs.declared.Clause.{Clause}
+use Rattle.sc_term.specs.declared.Line.{Line}
+use Rattle.sc_term.specs.declared.Numbered.{Numbered}
+use Rattle.sc_term.specs.declared.Step.TheVariants.{Merge}
+use Rattle.sc_term.specs.Numbering.{numbered, without}
+use Rattle.sc_term.specs.Proof.{IsMerged, clause_of}
+use Rattle.sc_term.specs.Substitution.{Unify}
+use Rattle.sc_term.specs.JointInstance.{apart}
+use Rattle.sc_steps.specs.declared.derivations.made.Made.{Made}
 use Rattle.sc_steps.proofs.LineLaws.{some_so}
-use Rattle.sc_rules.specs.declared.site.FactorSite.{FactorSite}
-use Rattle.sc_rules.specs.Pairing.{ArePairs, HaveSameSigns, places_in}
-use Rattle.sc_rules.specs.Derivation.{Adds}
-use Rattle.sc_rules.specs.Inference.{Inference, Concludes}
-use Rattle.sc_rules.specs.Resolution.{IsFactor}
-use Rattle.sc_rules.proofs.FactorExample.{one_pair}
-use Rattle.sc_rules.proofs.StepLaws.{same_some}
+use Rattle.sc_core_rules.specs.declared.site.FactorSite.{FactorSite}
+use Rattle.sc_core_rules.specs.Pairing.{ArePairs, HaveSameSigns, places_in}
+use Rattle.sc_core_rules.specs.Derivation.{Adds}
+use Rattle.sc_core_rules.specs.Inference.{Inference, Concludes}
+use Rattle.sc_core_rules.specs.Resolution.{IsFactor}
+use Rattle.sc_core_rules.proofs.FactorExample.{one_pair}
+use Rattle.sc_core_rules.proofs.StepLaws.{same_some}
 use Rattle.sc_resolve.specs.Literals.{pair_of}
 use Rattle.sc_resolve.specs.Parts.{AreJoint}
 use Rattle.sc_resolve.specs.Made.{AreFactored, factoring, IsRepeated, AreMerging}

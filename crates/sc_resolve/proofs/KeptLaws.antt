@@ -3,15 +3,15 @@ use Rattle.std.proofs.Common.{◌≡◌, ap, ℕ, ◌≤◌, List, [], ◌∷◌
 use Rattle.std.specs.List.{AllByRecursion, list_any}
 use Rattle.std.proofs.lemmas.List.{length-map}
 use Rattle.std.proofs.lemmas.List.Sums.{sum_by-cons}
-use Rattle.sc_data.specs.declared.Term.{Term}
-use Rattle.sc_data.specs.declared.Literal.{Literal}
-use Rattle.sc_data.specs.declared.Clause.{Clause}
-use Rattle.sc_data.specs.Term.{joined, term_weight, term_variables, weight_step}
-use Rattle.sc_data.specs.Clause.{literal_weight, weight, width, variables, firsts, firsts_after, IsWithinLimits}
-use Rattle.sc_data.specs.JointInstance.{shift}
-use Rattle.sc_data.proofs.TermLaws.{term_ind, fold-Var, weight-App}
-use Rattle.sc_data.proofs.TermSteps.{variables-Var, variables-App}
-use Rattle.sc_data.proofs.SubstitutionLaws.{all_of, literal_variables}
+use Rattle.sc_term.specs.declared.Term.{Term}
+use Rattle.sc_term.specs.declared.Literal.{Literal}
+use Rattle.sc_term.specs.declared.Clause.{Clause}
+use Rattle.sc_term.specs.Term.{joined, term_weight, term_variables, weight_step}
+use Rattle.sc_term.specs.Clause.{literal_weight, weight, width, variables, firsts, firsts_after, IsWithinLimits}
+use Rattle.sc_term.specs.JointInstance.{shift}
+use Rattle.sc_term.proofs.TermLaws.{term_ind, fold-Var, weight-App}
+use Rattle.sc_term.proofs.TermSteps.{variables-Var, variables-App}
+use Rattle.sc_term.proofs.SubstitutionLaws.{all_of, literal_variables}
 use Rattle.sc_interp.proofs.Width.{canonical_width}
 use Rattle.sc_resolve.specs.Kept.{IsKept}
 

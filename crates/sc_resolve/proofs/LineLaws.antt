@@ -1,19 +1,19 @@
 -- A derivation grows by the part of a parent.
 use Rattle.std.proofs.Common.{◌≡◌, ◌∙◌, sym, ap, subst, ℕ, ◌+◌, ◌⊎◌, inl, inr, List, [], ◌∷◌, ◌++◌, length, length-append, Some, arith}
-use Rattle.sc_data.specs.declared.Term.{Term}
-use Rattle.sc_data.specs.declared.Clause.{Clause}
-use Rattle.sc_data.specs.declared.Line.{Line}
-use Rattle.sc_data.specs.declared.Numbered.{Numbered}
-use Rattle.sc_data.specs.declared.Step.{Step}
-use Rattle.sc_data.specs.declared.Step.TheVariants.{Input, Instance}
-use Rattle.sc_data.specs.Numbering.{numbered}
-use Rattle.sc_data.specs.Clause.{instance, width}
-use Rattle.sc_data.specs.Proof.{clause_of}
+use Rattle.sc_term.specs.declared.Term.{Term}
+use Rattle.sc_term.specs.declared.Clause.{Clause}
+use Rattle.sc_term.specs.declared.Line.{Line}
+use Rattle.sc_term.specs.declared.Numbered.{Numbered}
+use Rattle.sc_term.specs.declared.Step.{Step}
+use Rattle.sc_term.specs.declared.Step.TheVariants.{Input, Instance}
+use Rattle.sc_term.specs.Numbering.{numbered}
+use Rattle.sc_term.specs.Clause.{instance, width}
+use Rattle.sc_term.specs.Proof.{clause_of}
 use Rattle.sc_steps.specs.Derivation.{IsInputAt, last_clause}
 use Rattle.sc_steps.proofs.ListLaws.{some_and}
 use Rattle.sc_steps.proofs.LineLaws.{some_so, clause_in_whole, clause_of_end, number_in_front_or_end}
-use Rattle.sc_rules.specs.Derivation.{Adds, AddsPart, AreTermsTo}
-use Rattle.sc_rules.proofs.DerivationCases.{adds_instance}
+use Rattle.sc_core_rules.specs.Derivation.{Adds, AddsPart, AreTermsTo}
+use Rattle.sc_core_rules.proofs.DerivationCases.{adds_instance}
 use Rattle.sc_resolve.specs.Lines.{IsAdded, HasInput, HasPart}
 
 -- ---- one line more

@@ -6,18 +6,18 @@ use Rattle.std.specs.Option.{option_map, is_some}
 use Rattle.std.proofs.lemmas.Bool.{eq-eqb}
 use Rattle.std.proofs.lemmas.Option.{slice_get_within, get_or_from_slice_get, slice_get-map, slice_get-get_or}
 use Rattle.std.proofs.lemmas.List.Folds.{list_any_at}
-use Rattle.sc_data.specs.declared.Literal.{Literal}
-use Rattle.sc_data.specs.declared.Clause.{Clause}
-use Rattle.sc_data.specs.declared.Term.{Var}
-use Rattle.sc_data.specs.Numbering.{numbered}
-use Rattle.sc_data.specs.Refuted.{Atom}
-use Rattle.sc_data.specs.Clause.{width}
-use Rattle.sc_data.specs.Substitution.{Unify, literal_under, Substitution, IsMostGeneralUnifier}
-use Rattle.sc_data.specs.JointInstance.{apart, shift}
-use Rattle.sc_data.proofs.SubstitutionLaws.{clause_laws, literal_laws}
+use Rattle.sc_term.specs.declared.Literal.{Literal}
+use Rattle.sc_term.specs.declared.Clause.{Clause}
+use Rattle.sc_term.specs.declared.Term.{Var}
+use Rattle.sc_term.specs.Numbering.{numbered}
+use Rattle.sc_term.specs.Refuted.{Atom}
+use Rattle.sc_term.specs.Clause.{width}
+use Rattle.sc_term.specs.Substitution.{Unify, literal_under, Substitution, IsMostGeneralUnifier}
+use Rattle.sc_term.specs.JointInstance.{apart, shift}
+use Rattle.sc_term.proofs.SubstitutionLaws.{clause_laws, literal_laws}
 use Rattle.sc_unify.specs.declared.bound.Binding.{Binding}
 use Rattle.sc_unify.specs.Unifiers.{substitution}
-use Rattle.sc_rules.proofs.NumberLaws.{numbered-suc}
+use Rattle.sc_core_rules.proofs.NumberLaws.{numbered-suc}
 use Rattle.sc_resolve.specs.Literals.{pair_of, may_resolve, may_merge, AreResolvable, AreMergeable}
 
 -- ---- numbers

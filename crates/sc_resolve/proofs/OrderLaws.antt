@@ -10,8 +10,8 @@ use Rattle.std.proofs.lemmas.List.Sorted.{All-permutation, Contains-permutation,
 use Rattle.std.proofs.lemmas.Map.Keys.{IsDistinct-IsPermutation}
 use Rattle.std.proofs.lemmas.Map.Made.{IsDistinct-from_AllPairs, AllPairs-from_IsDistinct}
 use Rattle.std.specs.Borrow.{Bor}
-use Rattle.sc_data.specs.declared.Numbered.{Numbered}
-use Rattle.sc_rules.specs.Order.{AreFirst}
+use Rattle.sc_term.specs.declared.Numbered.{Numbered}
+use Rattle.sc_core_rules.specs.Order.{AreFirst}
 use Rattle.sc_resolve.specs.ByNumber.{AreByNumber, seen}
 
 -- ---- the first things of which something holds, said in other words

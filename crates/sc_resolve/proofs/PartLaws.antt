@@ -4,20 +4,20 @@ use Rattle.std.specs.Prelude.{IfSome, IsSome, MatchOption, ◌↔◌, Option, No
 use Rattle.std.specs.List.{remove, AllByRecursion}
 use Rattle.std.proofs.lemmas.Option.{slice_get-map}
 use Rattle.std.proofs.lemmas.List.Sums.{sum_by-cons}
-use Rattle.sc_data.specs.declared.Term.{Term, Var}
-use Rattle.sc_data.proofs.TermLaws.{term_ind, width-Var, width-App}
-use Rattle.sc_data.proofs.TermSteps.{under-Var, under-App}
+use Rattle.sc_term.specs.declared.Term.{Term, Var}
+use Rattle.sc_term.proofs.TermLaws.{term_ind, width-Var, width-App}
+use Rattle.sc_term.proofs.TermSteps.{under-Var, under-App}
 use Rattle.sc_resolve.specs.declared.joint.Both.{Both}
-use Rattle.sc_data.specs.declared.Literal.{Literal}
-use Rattle.sc_data.specs.declared.Clause.{Clause}
-use Rattle.sc_data.specs.declared.Pair.{Pair}
-use Rattle.sc_data.specs.Numbering.{numbered, without}
-use Rattle.sc_data.specs.Refuted.{Atom, atom_of}
-use Rattle.sc_data.specs.Term.{joined, largest, term_under, term_width}
-use Rattle.sc_data.specs.Clause.{literal_weight, literal_depth, variables, firsts, IsWithinLimits, literal_width, width, instance}
-use Rattle.sc_data.specs.Substitution.{Substitution, literal_under, clause_under, IsUnifier, IsMostGeneralUnifier}
-use Rattle.sc_data.specs.JointInstance.{IsJointInstance, apart, renumbering, renumbered, whole, shift}
-use Rattle.sc_data.proofs.SubstitutionLaws.{clauses_laws, literal_laws, all_of}
+use Rattle.sc_term.specs.declared.Literal.{Literal}
+use Rattle.sc_term.specs.declared.Clause.{Clause}
+use Rattle.sc_term.specs.declared.Pair.{Pair}
+use Rattle.sc_term.specs.Numbering.{numbered, without}
+use Rattle.sc_term.specs.Refuted.{Atom, atom_of}
+use Rattle.sc_term.specs.Term.{joined, largest, term_under, term_width}
+use Rattle.sc_term.specs.Clause.{literal_weight, literal_depth, variables, firsts, IsWithinLimits, literal_width, width, instance}
+use Rattle.sc_term.specs.Substitution.{Substitution, literal_under, clause_under, IsUnifier, IsMostGeneralUnifier}
+use Rattle.sc_term.specs.JointInstance.{IsJointInstance, apart, renumbering, renumbered, whole, shift}
+use Rattle.sc_term.proofs.SubstitutionLaws.{clauses_laws, literal_laws, all_of}
 use Rattle.sc_steps.proofs.LineLaws.{map_some}
 use Rattle.sc_unify.specs.Joint.{AreTermsOf}
 use Rattle.sc_unify.specs.Unifiers.{substitution}

@@ -1,26 +1,26 @@
 -- The conclusion of binary resolution, put together.
 use Rattle.std.proofs.Common.{◌≡◌, ◌∙◌, sym, ap, subst, refl, ℕ, List, [], ◌∷◌, ◌++◌, map, Some, arith}
 use Rattle.std.specs.Prelude.{IsSomeAnd}
-use Rattle.sc_data.specs.declared.Literal.{Literal}
-use Rattle.sc_data.specs.declared.Clause.{Clause}
-use Rattle.sc_data.specs.declared.Line.{Line}
-use Rattle.sc_data.specs.declared.Numbered.{Numbered}
-use Rattle.sc_data.specs.declared.Step.TheVariants.{Resolve}
-use Rattle.sc_data.specs.Numbering.{numbered, without}
-use Rattle.sc_data.specs.Clause.{width}
-use Rattle.sc_data.specs.Proof.{IsResolvent, AreOpposite, clause_of}
-use Rattle.sc_data.specs.Substitution.{Unify}
-use Rattle.sc_data.specs.JointInstance.{apart, shift}
-use Rattle.sc_steps.specs.declared.made.Made.{Made}
+use Rattle.sc_term.specs.declared.Literal.{Literal}
+use Rattle.sc_term.specs.declared.Clause.{Clause}
+use Rattle.sc_term.specs.declared.Line.{Line}
+use Rattle.sc_term.specs.declared.Numbered.{Numbered}
+use Rattle.sc_term.specs.declared.Step.TheVariants.{Resolve}
+use Rattle.sc_term.specs.Numbering.{numbered, without}
+use Rattle.sc_term.specs.Clause.{width}
+use Rattle.sc_term.specs.Proof.{IsResolvent, AreOpposite, clause_of}
+use Rattle.sc_term.specs.Substitution.{Unify}
+use Rattle.sc_term.specs.JointInstance.{apart, shift}
+use Rattle.sc_steps.specs.declared.derivations.made.Made.{Made}
 use Rattle.sc_steps.proofs.LineLaws.{some_so}
-use Rattle.sc_rules.specs.declared.site.BinarySite.{BinarySite}
-use Rattle.sc_rules.specs.Pairing.{ArePairs, HaveOppositeSigns, places_in}
-use Rattle.sc_rules.specs.Derivation.{Adds}
-use Rattle.sc_rules.specs.Inference.{Inference, Concludes}
-use Rattle.sc_rules.specs.Resolution.{IsBinary}
-use Rattle.sc_rules.proofs.Enumerations.{in_one}
-use Rattle.sc_rules.proofs.FactorExample.{one_pair}
-use Rattle.sc_rules.proofs.StepLaws.{same_some}
+use Rattle.sc_core_rules.specs.declared.site.BinarySite.{BinarySite}
+use Rattle.sc_core_rules.specs.Pairing.{ArePairs, HaveOppositeSigns, places_in}
+use Rattle.sc_core_rules.specs.Derivation.{Adds}
+use Rattle.sc_core_rules.specs.Inference.{Inference, Concludes}
+use Rattle.sc_core_rules.specs.Resolution.{IsBinary}
+use Rattle.sc_core_rules.proofs.Enumerations.{in_one}
+use Rattle.sc_core_rules.proofs.FactorExample.{one_pair}
+use Rattle.sc_core_rules.proofs.StepLaws.{same_some}
 use Rattle.sc_resolve.specs.Literals.{pair_of}
 use Rattle.sc_resolve.specs.Binary.{renamed}
 use Rattle.sc_resolve.specs.Parts.{AreJoint}

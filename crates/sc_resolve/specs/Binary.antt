@@ -1,10 +1,10 @@
 -- The sites of binary resolution, loop by loop.
 use Rattle.std.specs.Prelude.{◌≡◌, ℕ, ◌+◌, List, Some, slice_get, length}
-use Rattle.sc_data.specs.declared.Literal.{Literal}
-use Rattle.sc_data.specs.declared.Numbered.{Numbered}
-use Rattle.sc_data.specs.Clause.{width}
-use Rattle.sc_data.specs.JointInstance.{shift}
-use Rattle.sc_rules.specs.declared.site.BinarySite.{BinarySite}
+use Rattle.sc_term.specs.declared.Literal.{Literal}
+use Rattle.sc_term.specs.declared.Numbered.{Numbered}
+use Rattle.sc_term.specs.Clause.{width}
+use Rattle.sc_term.specs.JointInstance.{shift}
+use Rattle.sc_core_rules.specs.declared.site.BinarySite.{BinarySite}
 use Rattle.sc_resolve.specs.Extending.{Below}
 use Rattle.sc_resolve.specs.Literals.{AreResolvable}
 

@@ -2,7 +2,7 @@
 use Rattle.std.specs.Prelude.{◌<◌, List, map, AllPairs}
 use Rattle.std.specs.List.Sorted.{IsPermutation}
 use Rattle.std.specs.Borrow.{Bor}
-use Rattle.sc_data.specs.declared.Numbered.{Numbered}
+use Rattle.sc_term.specs.declared.Numbered.{Numbered}
 
 -- what is seen through references
 abbrev pub seen : List (Bor Numbered) → List Numbered

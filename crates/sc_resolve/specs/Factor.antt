@@ -1,7 +1,7 @@
 -- The sites of factoring, loop by loop.
 use Rattle.std.specs.Prelude.{◌≡◌, ◌<◌, ℕ, ◌+◌, List, Some, slice_get, length}
-use Rattle.sc_data.specs.declared.Literal.{Literal}
-use Rattle.sc_rules.specs.declared.site.FactorSite.{FactorSite}
+use Rattle.sc_term.specs.declared.Literal.{Literal}
+use Rattle.sc_core_rules.specs.declared.site.FactorSite.{FactorSite}
 use Rattle.sc_resolve.specs.Extending.{Below}
 use Rattle.sc_resolve.specs.Literals.{AreMergeable}
 

@@ -1,6 +1,6 @@
 -- What clauses keep that are given or usable.
-use Rattle.sc_data.specs.declared.Clause.{Clause}
-use Rattle.sc_data.specs.Clause.{IsCanonical, IsWithinLimits}
+use Rattle.sc_term.specs.declared.Clause.{Clause}
+use Rattle.sc_term.specs.Clause.{IsCanonical, IsWithinLimits}
 
 -- the clause is canonical, and within the limits
 pub record IsKept (c : Clause) : Type 0 where

@@ -1,12 +1,12 @@
 -- The lines of a derivation as they are put together.
 use Rattle.std.specs.Prelude.{◌≡◌, ◌≤◌, ◌+◌, ◌⊎◌, ℕ, List, [], ◌∷◌, ◌++◌, Some, length}
-use Rattle.sc_data.specs.declared.Clause.{Clause}
-use Rattle.sc_data.specs.declared.Line.{Line}
-use Rattle.sc_data.specs.declared.Step.{Step}
-use Rattle.sc_data.specs.declared.Numbered.{Numbered}
-use Rattle.sc_data.specs.Proof.{clause_of}
+use Rattle.sc_term.specs.declared.Clause.{Clause}
+use Rattle.sc_term.specs.declared.Line.{Line}
+use Rattle.sc_term.specs.declared.Step.{Step}
+use Rattle.sc_term.specs.declared.Numbered.{Numbered}
+use Rattle.sc_term.specs.Proof.{clause_of}
 use Rattle.sc_steps.specs.Derivation.{IsInputAt}
-use Rattle.sc_rules.specs.Derivation.{AddsInput, AddsPart}
+use Rattle.sc_core_rules.specs.Derivation.{AddsInput, AddsPart}
 
 -- the line is added at the end, and has this number
 pub record IsAdded (before : List Line) (step : Step) (c : Clause) (after : List Line) (k : ℕ) : Type 0 where

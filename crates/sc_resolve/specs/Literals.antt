@@ -1,8 +1,8 @@
 -- Literals that can be resolved on, or merged.
 use Rattle.std.specs.Prelude.{◌≡◌, List, [], ◌∷◌, Bool, not, ◌&&◌, nat_eq, if◌then◌else◌}
-use Rattle.sc_data.specs.declared.Literal.{Literal}
-use Rattle.sc_data.specs.declared.Pair.{Pair}
-use Rattle.sc_data.specs.Substitution.{Unify}
+use Rattle.sc_term.specs.declared.Literal.{Literal}
+use Rattle.sc_term.specs.declared.Pair.{Pair}
+use Rattle.sc_term.specs.Substitution.{Unify}
 
 -- the pair of the two literals
 abbrev pub pair_of : Literal → Literal → List Pair

@@ -1,16 +1,16 @@
 -- Conclusions with their derivations.
 use Rattle.std.specs.Prelude.{◌≡◌, ◌<◌, ◌-◌, ℕ, List, [], ◌∷◌, Option, Some, MatchOption, Contains, take}
-use Rattle.sc_data.specs.declared.Literal.{Literal}
-use Rattle.sc_data.specs.declared.Clause.{Clause}
-use Rattle.sc_data.specs.declared.Line.{Line}
-use Rattle.sc_data.specs.declared.Numbered.{Numbered}
-use Rattle.sc_data.specs.declared.Step.TheVariants.{Merge, Resolve}
-use Rattle.sc_data.specs.Numbering.{numbered}
-use Rattle.sc_data.specs.Proof.{AreOpposite}
-use Rattle.sc_steps.specs.declared.derivation.Derived.{Derived}
-use Rattle.sc_steps.specs.declared.made.Made.{Made}
-use Rattle.sc_rules.specs.Derivation.{Adds, AddsPart, EndsCanonical}
-use Rattle.sc_rules.specs.Inference.{Inference, Merging, Resolving, Concludes}
+use Rattle.sc_term.specs.declared.Literal.{Literal}
+use Rattle.sc_term.specs.declared.Clause.{Clause}
+use Rattle.sc_term.specs.declared.Line.{Line}
+use Rattle.sc_term.specs.declared.Numbered.{Numbered}
+use Rattle.sc_term.specs.declared.Step.TheVariants.{Merge, Resolve}
+use Rattle.sc_term.specs.Numbering.{numbered}
+use Rattle.sc_term.specs.Proof.{AreOpposite}
+use Rattle.sc_steps.specs.declared.derivations.derivation.Derived.{Derived}
+use Rattle.sc_steps.specs.declared.derivations.made.Made.{Made}
+use Rattle.sc_core_rules.specs.Derivation.{Adds, AddsPart, EndsCanonical}
+use Rattle.sc_core_rules.specs.Inference.{Inference, Merging, Resolving, Concludes}
 use Rattle.sc_resolve.specs.Literals.{pair_of, AreMergeable, AreResolvable}
 use Rattle.sc_resolve.specs.Binary.{renamed}
 

@@ -1,10 +1,10 @@
 -- The parts of parents in their joint instance.
 use Rattle.std.specs.Prelude.{◌≡◌, List, [], ◌∷◌, length}
-use Rattle.sc_data.specs.declared.Term.{Term}
-use Rattle.sc_data.specs.declared.Clause.{Clause}
-use Rattle.sc_data.specs.declared.Pair.{Pair}
-use Rattle.sc_data.specs.Clause.{width, instance, IsWithinLimits}
-use Rattle.sc_data.specs.JointInstance.{IsJointInstance, whole}
+use Rattle.sc_term.specs.declared.Term.{Term}
+use Rattle.sc_term.specs.declared.Clause.{Clause}
+use Rattle.sc_term.specs.declared.Pair.{Pair}
+use Rattle.sc_term.specs.Clause.{width, instance, IsWithinLimits}
+use Rattle.sc_term.specs.JointInstance.{IsJointInstance, whole}
 
 -- the joint instance is outside the limits
 abbrev pub IsOutside : List Clause → List Pair → Type 0

@@ -1,9 +1,9 @@
 //! The sites of binary resolution.
 
 ghost use Rattle.std.specs.Prelude.{◌≡◌, ◌≢◌, ◌<◌, ◌≤◌, ◌+◌, ◌^◌, length, IfOk, OnOk, All, AllPairs};
-ghost use Rattle.sc_data.specs.Clause.{width};
-ghost use Rattle.sc_data.specs.JointInstance.{shift};
-ghost use Rattle.sc_rules.specs.Resolution.{AreBinarySites, binary_numbers};
+ghost use Rattle.sc_term.specs.Clause.{width};
+ghost use Rattle.sc_term.specs.JointInstance.{shift};
+ghost use Rattle.sc_core_rules.specs.Resolution.{AreBinarySites, binary_numbers};
 ghost use Rattle.sc_resolve.specs.Kept.{IsKept};
 ghost use Rattle.sc_resolve.specs.ByNumber.{seen};
 ghost use Rattle.sc_resolve.specs.Extending.{Extends, Below};
@@ -11,10 +11,8 @@ ghost use Rattle.sc_resolve.specs.Binary.{IsWithLiteral, IsWithClause, IsWithPar
 
 use crate::literals::{are_resolvable, may_resolve_any};
 use crate::order::by_number;
-use sc_data::{Literal, Numbered};
-use sc_rules::BinarySite;
-use sc_term::{Mem, shift, width};
-use sqlite_items::Items;
+use sc_core_rules::BinarySite;
+use sc_term::{List, Literal, Mem, Numbered, shift, width};
 use std::alloc::Global;
 
 /// Adds the sites of literal `given_lit` with the literals of the partner, renamed apart, while there is room.
@@ -25,7 +23,7 @@ fn add_with_literal(
     partner: u32,
     given_lit: u32,
     limit: usize,
-    sites: &mut Items<BinarySite>,
+    sites: &mut List<BinarySite>,
 ) -> Mem<()>
     requires { length others.now ≤ 10000 }
     ensures { OnOk result (Extends binary_numbers (Below (IsWithLiteral partner given_lit l.now others.now) (length others.now)) limit sites.old sites.new) }
@@ -52,7 +50,7 @@ fn add_with_clause(
     others: &[Literal],
     partner: u32,
     limit: usize,
-    sites: &mut Items<BinarySite>,
+    sites: &mut List<BinarySite>,
 ) -> Mem<()>
     requires few { length literals.now ≤ 10000 }
     requires few_others { length others.now ≤ 10000 }
@@ -82,7 +80,7 @@ fn add_with_partner(
     given: &Numbered,
     partner: &Numbered,
     limit: usize,
-    sites: &mut Items<BinarySite>,
+    sites: &mut List<BinarySite>,
 ) -> Mem<()>
     requires given { IsKept given.now.clause }
     requires partner { IsKept partner.now.clause }
@@ -110,13 +108,13 @@ fn sites_in_order(
     given: &Numbered,
     partners: &[&Numbered],
     limit: u32,
-) -> Mem<Items<BinarySite>>
+) -> Mem<List<BinarySite>>
     requires rising { AllPairs (λ p q. p.number < q.number) (seen partners.now) }
     requires given { IsKept given.now.clause }
     requires kept { All (λ p. IsKept p.clause) (seen partners.now) }
     ensures { IfOk result (λ sites. AreBinarySites given.now (seen partners.now) limit sites) }
 {
-    let mut sites = Items::new(alloc);
+    let mut sites = List::new(alloc);
     for partner in partners {
         if sites.len() >= limit as usize {
             return Ok(sites);
@@ -133,9 +131,9 @@ fn sites_in_order(
 pub fn binary_sites(
     alloc: Global,
     given: &Numbered,
-    usable: &Items<Numbered>,
+    usable: &List<Numbered>,
     limit: u32,
-) -> Mem<Items<BinarySite>>
+) -> Mem<List<BinarySite>>
     requires differ { AllPairs (λ p q. p.number ≢ q.number) usable.now }
     requires given { IsKept given.now.clause }
     requires kept { All (λ p. IsKept p.clause) usable.now }

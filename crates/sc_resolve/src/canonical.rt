@@ -2,20 +2,19 @@
 
 ghost use Rattle.std.specs.Prelude.{◌≡◌, ◌↔◌, ◌<◌, ◌≤◌, ◌+◌, ◌^◌, ℕ, Some, length, nat_eq, slice_get, IfOk, IsTrue};
 ghost use Rattle.std.specs.List.{position_or_len};
-ghost use Rattle.sc_data.specs.declared.Term.{Var as AVar};
-ghost use Rattle.sc_data.specs.Clause.{IsWithinLimits, counting_from};
+ghost use Rattle.sc_term.specs.declared.Term.{Var as AVar};
+ghost use Rattle.sc_term.specs.Clause.{IsWithinLimits, counting_from};
 ghost use Rattle.sc_steps.specs.Derivation.{last_clause};
-ghost use Rattle.sc_rules.specs.Derivation.{EndsCanonical};
+ghost use Rattle.sc_core_rules.specs.Derivation.{EndsCanonical};
 ghost use Rattle.sc_resolve.specs.Canonical.{place_in};
 ghost use Rattle.sc_resolve.specs.Kept.{IsKept};
 
 use crate::lines::add_line;
-use sc_data::{Clause, Line, Step, Term};
 use sc_steps::Made;
 use sc_term::{
-    MAX_DEPTH, MAX_WEIGHT, Mem, canonical, copy, depth, full_width, note_variables, weight,
+    Clause, Line, List, MAX_DEPTH, MAX_WEIGHT, Mem, Step, Term, canonical, copy, depth, full_width,
+    note_variables, weight,
 };
-use sqlite_items::Items;
 use std::alloc::Global;
 
 /// Whether the numbers are 0, 1, ..
@@ -43,7 +42,7 @@ fn place(order: &[u32], n: u64) -> usize
 }
 
 /// The number of a variable by first occurrence, 0 where it doesn't occur.
-fn number_of(order: &[u32], n: u64) -> u32
+fn new_number(order: &[u32], n: u64) -> u32
     requires { length order.now ≤ 10000 }
     ensures { result ≡ place_in order.now n }
 {
@@ -52,14 +51,14 @@ fn number_of(order: &[u32], n: u64) -> u32
 }
 
 /// The terms that number so many variables by first occurrence.
-fn numbering(alloc: Global, order: &[u32], width: u64) -> Mem<Items<Term>>
+fn numbering(alloc: Global, order: &[u32], width: u64) -> Mem<List<Term>>
     requires { length order.now ≤ 10000 }
     ensures many { IfOk result (λ terms. length terms ≡ width) }
     ensures each { IfOk result (λ terms. (n : ℕ) → n < width → slice_get terms n ≡ Some (AVar (place_in order.now n))) }
 {
-    let mut terms = Items::new(alloc);
+    let mut terms = List::new(alloc);
     for n in 0..width {
-        terms.push(Term::Var(number_of(order, n)))?;
+        terms.push(Term::Var(new_number(order, n)))?;
     }
     Ok(terms)
 }
@@ -78,7 +77,7 @@ pub fn is_kept(alloc: Global, c: &Clause) -> Mem<bool>
 
 /// The conclusion with its derivation, which gets an `instance` line to the canonical form of its last clause, unless
 /// that is canonical already.
-pub fn finish(alloc: Global, mut lines: Items<Line>, clause: Clause) -> Mem<Made>
+pub fn finish(alloc: Global, mut lines: List<Line>, clause: Clause) -> Mem<Made>
     requires few { length lines + 1 < 2 ^ 32 }
     requires ends { last_clause lines ≡ Some clause }
     requires within { IsWithinLimits clause }

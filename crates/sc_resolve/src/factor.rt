@@ -1,16 +1,14 @@
 //! The sites of factoring.
 
 ghost use Rattle.std.specs.Prelude.{◌≡◌, ◌<◌, ◌≤◌, ◌+◌, length, IfOk, OnOk};
-ghost use Rattle.sc_rules.specs.Resolution.{AreFactorSites, factor_numbers};
+ghost use Rattle.sc_core_rules.specs.Resolution.{AreFactorSites, factor_numbers};
 ghost use Rattle.sc_resolve.specs.Kept.{IsKept};
 ghost use Rattle.sc_resolve.specs.Extending.{Extends, Below};
 ghost use Rattle.sc_resolve.specs.Factor.{IsWithSecond, IsWithFirst};
 
 use crate::literals::are_mergeable;
-use sc_data::{Literal, Numbered};
-use sc_rules::FactorSite;
-use sc_term::Mem;
-use sqlite_items::Items;
+use sc_core_rules::FactorSite;
+use sc_term::{List, Literal, Mem, Numbered};
 use std::alloc::Global;
 
 /// Adds the sites of the literal at `first` with those behind it, while there is room.
@@ -19,7 +17,7 @@ fn add_with_first(
     literals: &[Literal],
     first: usize,
     limit: usize,
-    sites: &mut Items<FactorSite>,
+    sites: &mut List<FactorSite>,
 ) -> Mem<()>
     requires there { first < length literals.now }
     requires few { length literals.now ≤ 10000 }
@@ -41,12 +39,12 @@ fn add_with_first(
 
 /// The sites of factoring of the given clause, in rising order of the first and of the second literal
 /// (`AreFactorSites`): the first ones, at most as many as the limit.
-pub fn factor_sites(alloc: Global, given: &Numbered, limit: u32) -> Mem<Items<FactorSite>>
+pub fn factor_sites(alloc: Global, given: &Numbered, limit: u32) -> Mem<List<FactorSite>>
     requires { IsKept given.now.clause }
     ensures { IfOk result (λ sites. AreFactorSites given.now limit sites) }
 {
     let literals = given.clause.literals.as_slice();
-    let mut sites = Items::new(alloc);
+    let mut sites = List::new(alloc);
     for first in 0..literals.len() {
         if sites.len() >= limit as usize {
             return Ok(sites);

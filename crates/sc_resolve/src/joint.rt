@@ -1,29 +1,27 @@
 //! Parts of parents in their joint instance.
 
-ghost use Rattle.std.specs.Prelude.{◌≡◌, ◌<◌, ◌≤◌, ◌∷◌, [], List, length, IfOk, IsSomeAnd, MatchOption};
-ghost use Rattle.sc_data.specs.declared.Term.{Term as ATerm};
-ghost use Rattle.sc_data.specs.declared.Clause.{Clause as AClause};
-ghost use Rattle.sc_data.specs.JointInstance.{shift};
-ghost use Rattle.sc_data.specs.Clause.{width, instance, IsWithinLimits};
-ghost use Rattle.sc_data.specs.Substitution.{Unify};
+ghost use Rattle.std.specs.Prelude.{◌≡◌, ◌<◌, ◌≤◌, ◌∷◌, [], List as AList, length, IfOk, IsSomeAnd, MatchOption};
+ghost use Rattle.sc_term.specs.declared.Term.{Term as ATerm};
+ghost use Rattle.sc_term.specs.declared.Clause.{Clause as AClause};
+ghost use Rattle.sc_term.specs.JointInstance.{shift};
+ghost use Rattle.sc_term.specs.Clause.{width, instance, IsWithinLimits};
+ghost use Rattle.sc_term.specs.Substitution.{Unify};
 ghost use Rattle.sc_resolve.specs.Literals.{pair_of};
 ghost use Rattle.sc_resolve.specs.Parts.{IsOutside, AreTermsOfOne, AreTermsOfTwo};
 
-use sc_data::{Clause, Literal, Term};
-use sc_term::{Mem, copy, instance};
+use sc_term::{Clause, List, Literal, Mem, Term, copy, instance};
 use sc_unify::{joint_terms, unify};
-use sqlite_items::Items;
 use std::alloc::Global;
 
 /// A clause with the terms that make it of its parent.
 #[derive(Drop)]
 pub struct Part {
-    pub terms: Items<Term>,
+    pub terms: List<Term>,
     pub clause: Clause,
 }
 
 /// What the terms make of the clause, or None where that is outside the limits.
-pub fn part_of(alloc: Global, c: &Clause, terms: Items<Term>) -> Mem<Option<Part>>
+pub fn part_of(alloc: Global, c: &Clause, terms: List<Term>) -> Mem<Option<Part>>
     requires { length terms ≡ width c.now }
     ensures { IfOk result (λ found. MatchOption found (¬ IsWithinLimits (instance terms c.now)) (λ p. (p.terms ≡ terms) × (p.clause ≡ instance terms c.now))) }
 {
@@ -35,7 +33,7 @@ pub fn part_of(alloc: Global, c: &Clause, terms: Items<Term>) -> Mem<Option<Part
 
 /// The terms that take the clause to its part of the joint instance in which the two atoms of it become equal, or None
 /// where that is outside the limits.
-pub fn joint_one(alloc: Global, c: &Clause, l: &Literal, m: &Literal) -> Mem<Option<Items<Term>>>
+pub fn joint_one(alloc: Global, c: &Clause, l: &Literal, m: &Literal) -> Mem<Option<List<Term>>>
     requires narrow { width c.now ≤ 10000 }
     requires unify { Unify (pair_of l.now m.now) }
     ensures { IfOk result (λ found. MatchOption found (IsOutside (c.now ∷ []) (pair_of l.now m.now)) (λ terms. AreTermsOfOne c.now (pair_of l.now m.now) terms)) }
@@ -44,7 +42,7 @@ pub fn joint_one(alloc: Global, c: &Clause, l: &Literal, m: &Literal) -> Mem<Opt
         Some(s) => s,
         None => return Ok(None),
     };
-    let mut parents = Items::new(alloc);
+    let mut parents = List::new(alloc);
     parents.push(copy(alloc, c)?)?;
     match joint_terms(alloc, &s, &parents)? {
         Some(mut told) => Ok(told.pop()),
@@ -55,13 +53,13 @@ pub fn joint_one(alloc: Global, c: &Clause, l: &Literal, m: &Literal) -> Mem<Opt
 /// The terms for two parents.
 #[derive(Drop)]
 pub struct Both {
-    pub left: Items<Term>,
-    pub right: Items<Term>,
+    pub left: List<Term>,
+    pub right: List<Term>,
 }
 
 /// The last two of the rows.
-fn both_of(rows: Items<Items<Term>>) -> Option<Both>
-    ensures { (left right : List ATerm) → rows ≡ left ∷ right ∷ [] → IsSomeAnd result (λ b. (b.left ≡ left) × (b.right ≡ right)) }
+fn both_of(rows: List<List<Term>>) -> Option<Both>
+    ensures { (left right : AList ATerm) → rows ≡ left ∷ right ∷ [] → IsSomeAnd result (λ b. (b.left ≡ left) × (b.right ≡ right)) }
 {
     let mut rest = rows;
     let right = rest.pop()?;
@@ -88,7 +86,7 @@ pub fn joint_two(
         Some(s) => s,
         None => return Ok(None),
     };
-    let mut parents = Items::new(alloc);
+    let mut parents = List::new(alloc);
     parents.push(copy(alloc, c)?)?;
     parents.push(copy(alloc, apart)?)?;
     match joint_terms(alloc, &s, &parents)? {

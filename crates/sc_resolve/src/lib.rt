@@ -1,6 +1,6 @@
 //! Binary resolution and factoring: the sites of a given clause, and the conclusions of sites with their derivations.
 //!
-//! It stands on `sc_rules`, whose definitions of sites, inferences and conclusions (`Resolution`, `Inference`,
+//! It stands on `sc_core_rules`, whose definitions of sites, inferences and conclusions (`Resolution`, `Inference`,
 //! `Derivation`) the contracts cite, on `sc_unify` for unifiers and joint instances, on `sc_term` and on `sc_steps`,
 //! whose `Made` keeps that the last line has the conclusion.
 //!
@@ -32,6 +32,3 @@ pub use literals::literal;
 pub use merging::make_factor;
 pub use order::by_number;
 pub use resolving::make_binary;
-
-#[cfg(test)]
-mod tests;

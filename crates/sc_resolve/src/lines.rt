@@ -1,15 +1,13 @@
 //! How derivations are put together, line by line.
 
 ghost use Rattle.std.specs.Prelude.{◌≡◌, ◌↔◌, ◌<◌, ◌≤◌, ◌+◌, ◌^◌, ◌∷◌, [], ◌++◌, ℕ, Some, length, IfOk, OnOk, IsTrue, MatchOption};
-ghost use Rattle.sc_data.specs.declared.Step.TheVariants.{Input};
-ghost use Rattle.sc_data.specs.Proof.{clause_of};
+ghost use Rattle.sc_term.specs.declared.Step.TheVariants.{Input};
+ghost use Rattle.sc_term.specs.Proof.{clause_of};
 ghost use Rattle.sc_steps.specs.Derivation.{IsInputAt};
-ghost use Rattle.sc_rules.specs.Derivation.{AreTermsTo, IsFirstInput};
+ghost use Rattle.sc_core_rules.specs.Derivation.{AreTermsTo, IsFirstInput};
 ghost use Rattle.sc_resolve.specs.Lines.{IsAdded, HasInput, HasPart, IsKnown};
 
-use sc_data::{Clause, Line, Numbered, Step, Term};
-use sc_term::{Mem, copy, same};
-use sqlite_items::Items;
+use sc_term::{Clause, Line, List, Mem, Numbered, Step, Term, copy, same};
 use std::alloc::Global;
 
 fn is_input(step: &Step, n: u32) -> bool
@@ -39,7 +37,7 @@ fn input_line(lines: &[Line], n: u32) -> Option<u32>
 }
 
 /// Adds the line. The answer is its number.
-pub fn add_line(lines: &mut Items<Line>, step: Step, clause: Clause) -> Mem<u32>
+pub fn add_line(lines: &mut List<Line>, step: Step, clause: Clause) -> Mem<u32>
     requires { length lines.old + 1 < 2 ^ 32 }
     ensures { IfOk result (λ k. IsAdded lines.old step clause lines.new k) }
 {
@@ -48,7 +46,7 @@ pub fn add_line(lines: &mut Items<Line>, step: Step, clause: Clause) -> Mem<u32>
 }
 
 /// The line that has the clause by its number. It is added where there is none.
-fn add_input(alloc: Global, lines: &mut Items<Line>, parent: &Numbered) -> Mem<u32>
+fn add_input(alloc: Global, lines: &mut List<Line>, parent: &Numbered) -> Mem<u32>
     requires few { length lines.old + 1 < 2 ^ 32 }
     requires known { IsKnown lines.old parent.now }
     ensures { IfOk result (λ k. HasInput lines.old parent.now lines.new k) }
@@ -65,9 +63,9 @@ fn add_input(alloc: Global, lines: &mut Items<Line>, parent: &Numbered) -> Mem<u
 /// The line that has the parent's part, which the terms make of it. Lines are added for it, as far as they are needed.
 pub fn add_part(
     alloc: Global,
-    lines: &mut Items<Line>,
+    lines: &mut List<Line>,
     parent: &Numbered,
-    terms: Items<Term>,
+    terms: List<Term>,
     part: &Clause,
 ) -> Mem<u32>
     requires few { length lines.old + 2 < 2 ^ 32 }

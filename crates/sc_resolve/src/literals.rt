@@ -3,11 +3,10 @@
 ghost use Rattle.std.specs.Prelude.{◌≡◌, ◌↔◌, not, false, IsTrue, IfOk};
 ghost use Rattle.std.specs.List.{list_any};
 ghost use Rattle.std.specs.Option.{option_copied};
-ghost use Rattle.sc_data.specs.Numbering.{numbered};
+ghost use Rattle.sc_term.specs.Numbering.{numbered};
 ghost use Rattle.sc_resolve.specs.Literals.{may_resolve, may_merge, AreResolvable, AreMergeable};
 
-use sc_data::Literal;
-use sc_term::Mem;
+use sc_term::{Literal, Mem};
 use sc_unify::unify;
 use std::alloc::Global;
 

@@ -1,10 +1,10 @@
 //! Conclusions of factoring.
 
 ghost use Rattle.std.specs.Prelude.{◌≡◌, ◌<◌, ◌≤◌, ℕ, length, IfOk};
-ghost use Rattle.sc_data.specs.Clause.{IsWithinLimits};
-ghost use Rattle.sc_rules.specs.Derivation.{AreTermsTo};
-ghost use Rattle.sc_rules.specs.Inference.{Inference};
-ghost use Rattle.sc_rules.specs.Resolution.{IsFactor};
+ghost use Rattle.sc_term.specs.Clause.{IsWithinLimits};
+ghost use Rattle.sc_core_rules.specs.Derivation.{AreTermsTo};
+ghost use Rattle.sc_core_rules.specs.Inference.{Inference};
+ghost use Rattle.sc_core_rules.specs.Resolution.{IsFactor};
 ghost use Rattle.sc_resolve.specs.Kept.{IsKept};
 ghost use Rattle.sc_resolve.specs.Made.{Makes, AreFactored, factoring, IsRepeated, AreMerging};
 
@@ -12,11 +12,9 @@ use crate::canonical::finish;
 use crate::joint::{Part, joint_one, part_of};
 use crate::lines::{add_line, add_part};
 use crate::literals::literal;
-use sc_data::{Literal, Numbered, Step};
-use sc_rules::FactorSite;
+use sc_core_rules::FactorSite;
 use sc_steps::Made;
-use sc_term::{Mem, copy};
-use sqlite_items::Items;
+use sc_term::{List, Literal, Mem, Numbered, Step, copy};
 use std::alloc::Global;
 
 /// The part without the literal of this number, which equals an earlier one, with its derivation.
@@ -27,7 +25,7 @@ fn merged(alloc: Global, given: &Numbered, part: Part, second: u32) -> Mem<Made>
     ensures { IfOk result (λ made. AreMerging given.now part.clause second made.lines) }
 {
     let Part { terms, mut clause } = part;
-    let mut lines = Items::new(alloc);
+    let mut lines = List::new(alloc);
     let of = add_part(alloc, &mut lines, given, terms, &clause)?;
     clause.literals.remove(second as usize - 1);
     let line = copy(alloc, &clause)?;

@@ -3,8 +3,7 @@
 ghost use Rattle.std.specs.Prelude.{◌≢◌, AllPairs, IfOk};
 ghost use Rattle.sc_resolve.specs.ByNumber.{AreByNumber, seen};
 
-use sc_data::Numbered;
-use sc_term::Mem;
+use sc_term::{Mem, Numbered};
 use std::alloc::Global;
 
 /// The clauses in rising order of their numbers (`AreByNumber`). The numbers have to differ.

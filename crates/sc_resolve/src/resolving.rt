@@ -1,12 +1,12 @@
 //! Conclusions of binary resolution.
 
 ghost use Rattle.std.specs.Prelude.{◌≡◌, ◌<◌, ◌≤◌, ◌++◌, ◌∷◌, [], ℕ, length, IfOk};
-ghost use Rattle.sc_data.specs.Numbering.{without};
-ghost use Rattle.sc_data.specs.Clause.{IsWithinLimits, width};
-ghost use Rattle.sc_data.specs.JointInstance.{shift, whole};
-ghost use Rattle.sc_rules.specs.Derivation.{AreTermsTo};
-ghost use Rattle.sc_rules.specs.Inference.{Inference};
-ghost use Rattle.sc_rules.specs.Resolution.{IsBinary};
+ghost use Rattle.sc_term.specs.Numbering.{without};
+ghost use Rattle.sc_term.specs.Clause.{IsWithinLimits, width};
+ghost use Rattle.sc_term.specs.JointInstance.{shift, whole};
+ghost use Rattle.sc_core_rules.specs.Derivation.{AreTermsTo};
+ghost use Rattle.sc_core_rules.specs.Inference.{Inference};
+ghost use Rattle.sc_core_rules.specs.Resolution.{IsBinary};
 ghost use Rattle.sc_resolve.specs.Kept.{IsKept};
 ghost use Rattle.sc_resolve.specs.Made.{Makes, AreResolved, resolution, IsOpposed, AreResolving};
 
@@ -14,11 +14,9 @@ use crate::canonical::finish;
 use crate::joint::{Both, Part, joint_two, part_of};
 use crate::lines::{add_line, add_part};
 use crate::literals::literal;
-use sc_data::{Clause, Literal, Numbered, Step};
-use sc_rules::BinarySite;
+use sc_core_rules::BinarySite;
 use sc_steps::Made;
-use sc_term::{Mem, copy, shift, width};
-use sqlite_items::Items;
+use sc_term::{Clause, List, Literal, Mem, Numbered, Step, copy, shift, width};
 use std::alloc::Global;
 
 /// The literals of the one clause without number a, and those of the other without number b.
@@ -53,7 +51,7 @@ fn resolved(
     requires same { partner.now.number ≡ given.now.number → partner.now ≡ given.now }
     ensures { IfOk result (λ made. AreResolving given.now partner.now left.clause right.clause site.now.given_lit site.now.partner_lit made.lines) }
 {
-    let mut lines = Items::new(alloc);
+    let mut lines = List::new(alloc);
     let of_left = add_part(alloc, &mut lines, given, left.terms, &left.clause)?;
     let of_right = add_part(alloc, &mut lines, partner, right.terms, &right.clause)?;
     let clause = resolvent(left.clause, site.given_lit, right.clause, site.partner_lit)?;

@@ -1,11 +1,11 @@
 -- What stands behind a clause: members of a refutation, one of which is false wherever the clause's instance is.
 use Rattle.std.proofs.Common.{◌≡◌, Bool, true, List}
 use Rattle.std.specs.List.{list_all, list_any, AllByRecursion}
-use Rattle.sc_data.specs.declared.Term.{Term}
-use Rattle.sc_data.specs.declared.Literal.{Literal}
-use Rattle.sc_data.specs.declared.Clause.{Clause}
-use Rattle.sc_data.specs.Clause.{literal_instance, instance}
-use Rattle.sc_data.specs.Refuted.{Atom, is_false_literal, is_false_clause, IsMember}
+use Rattle.sc_term.specs.declared.Term.{Term}
+use Rattle.sc_term.specs.declared.Literal.{Literal}
+use Rattle.sc_term.specs.declared.Clause.{Clause}
+use Rattle.sc_term.specs.Clause.{literal_instance, instance}
+use Rattle.sc_term.specs.Refuted.{Atom, is_false_literal, is_false_clause, IsMember}
 use Rattle.sc_steps.proofs.ListLaws.{all_map}
 
 -- the literal's instance by the terms is false

@@ -4,7 +4,7 @@ use Rattle.std.specs.List.{list_all, remove}
 use Rattle.std.proofs.lemmas.Grind.{common_steps}
 use Rattle.std.proofs.lemmas.List.{append_cancel_left, take-set, drop-set-lt}
 use Rattle.std.proofs.lemmas.Option.{slice_get-map}
-use Rattle.sc_data.specs.Numbering.{numbered}
+use Rattle.sc_term.specs.Numbering.{numbered}
 use Rattle.sc_steps.proofs.ListLaws.{both, at_number}
 
 -- ---- the parts before and after the element

@@ -2,15 +2,15 @@
 use Rattle.std.proofs.Common.{◌≡◌, ◌≢◌, ◌∙◌, sym, ap, subst, refl, ℕ, ◌-◌, ◌==◌, Bool, IsTrue, List, [], ◌∷◌, ◌++◌, length, Some, true, arith}
 use Rattle.std.proofs.lemmas.Bool.{eqb-true}
 use Rattle.std.proofs.lemmas.List.{append-nil}
-use Rattle.sc_data.specs.declared.Term.{Term}
-use Rattle.sc_data.specs.declared.Term.TheVariants.{App}
-use Rattle.sc_data.specs.declared.Literal.{Literal}
-use Rattle.sc_data.specs.declared.Clause.{Clause}
-use Rattle.sc_data.specs.declared.Side.{Side}
-use Rattle.sc_data.specs.Numbering.{numbered, without, with_element}
-use Rattle.sc_data.specs.Path.{IsReplaced}
-use Rattle.sc_data.specs.Refuted.{equals, equation}
-use Rattle.sc_data.specs.Proof.{chosen, other, IsParamodulant, IsFlipped}
+use Rattle.sc_term.specs.declared.Term.{Term}
+use Rattle.sc_term.specs.declared.Term.TheVariants.{App}
+use Rattle.sc_term.specs.declared.Literal.{Literal}
+use Rattle.sc_term.specs.declared.Clause.{Clause}
+use Rattle.sc_term.specs.declared.Side.{Side}
+use Rattle.sc_term.specs.Numbering.{numbered, without, with_element}
+use Rattle.sc_term.specs.Path.{IsReplaced}
+use Rattle.sc_term.specs.Refuted.{equals, equation}
+use Rattle.sc_term.specs.Proof.{chosen, other, IsParamodulant, IsFlipped}
 use Rattle.sc_steps.specs.Replacement.{IsTermReplaced, IsLiteralReplaced, IsLiteralFlipped}
 use Rattle.sc_steps.proofs.ListLaws.{some_and}
 use Rattle.sc_steps.proofs.LineLaws.{some_so, number_within}

@@ -2,20 +2,20 @@
 use Rattle.std.proofs.Common.{◌≡◌, ◌∙◌, sym, ap, refl, ℕ, suc, ◌-◌, Bool, true, false, not, ◌&&◌, ◌||◌, List, [], ◌∷◌, ◌++◌, take, drop, map, Some, inl, inr, ◌⊎◌}
 use Rattle.std.specs.List.{list_any, AllByRecursion}
 use Rattle.std.proofs.lemmas.Option.{slice_get_within}
-use Rattle.sc_data.specs.declared.SymId.{SymId}
-use Rattle.sc_data.specs.declared.Term.{Term}
-use Rattle.sc_data.specs.declared.Term.TheVariants.{App}
-use Rattle.sc_data.specs.declared.Literal.{Literal}
-use Rattle.sc_data.specs.declared.Clause.{Clause}
-use Rattle.sc_data.specs.declared.Side.{Side}
-use Rattle.sc_data.specs.declared.Side.TheVariants.{Left, Right}
-use Rattle.sc_data.specs.Term.{term_instance}
-use Rattle.sc_data.specs.Clause.{literal_instance}
-use Rattle.sc_data.specs.Numbering.{with_element}
-use Rattle.sc_data.specs.Path.{IsReplaced}
-use Rattle.sc_data.specs.Proof.{chosen, other}
-use Rattle.sc_data.specs.Refuted.{Atom, is_true_in, is_false_literal, is_false_clause, equals, equation, IsEqualityAxiom}
-use Rattle.sc_data.proofs.TermLaws.{instance-App}
+use Rattle.sc_term.specs.declared.SymId.{SymId}
+use Rattle.sc_term.specs.declared.Term.{Term}
+use Rattle.sc_term.specs.declared.Term.TheVariants.{App}
+use Rattle.sc_term.specs.declared.Literal.{Literal}
+use Rattle.sc_term.specs.declared.Clause.{Clause}
+use Rattle.sc_term.specs.declared.Side.{Side}
+use Rattle.sc_term.specs.declared.Side.TheVariants.{Left, Right}
+use Rattle.sc_term.specs.Term.{term_instance}
+use Rattle.sc_term.specs.Clause.{literal_instance}
+use Rattle.sc_term.specs.Numbering.{with_element}
+use Rattle.sc_term.specs.Path.{IsReplaced}
+use Rattle.sc_term.specs.Proof.{chosen, other}
+use Rattle.sc_term.specs.Refuted.{Atom, is_true_in, is_false_literal, is_false_clause, equals, equation, IsEqualityAxiom}
+use Rattle.sc_term.proofs.TermLaws.{instance-App}
 use Rattle.sc_steps.proofs.ListLaws.{at_number, or_right, any_left, any_right, all_both}
 use Rattle.sc_steps.proofs.ChangedElement.{parts, set_parts, map_set, map_numbered}
 

@@ -1,15 +1,15 @@
 -- The steps on equality are sound: finitely many equality axioms stand behind them.
 use Rattle.std.proofs.Common.{◌≡◌, ◌∙◌, sym, ap, ℕ, ◌-◌, List, [], ◌∷◌, ◌++◌, true, inl, inr}
 use Rattle.std.specs.List.{list_all, AllByRecursion}
-use Rattle.sc_data.specs.declared.Term.{Term}
-use Rattle.sc_data.specs.declared.Literal.{Literal}
-use Rattle.sc_data.specs.declared.Clause.{Clause}
-use Rattle.sc_data.specs.declared.Side.{Side}
-use Rattle.sc_data.specs.Term.{term_instance}
-use Rattle.sc_data.specs.Numbering.{numbered, without, with_element}
-use Rattle.sc_data.specs.Path.{IsReplaced}
-use Rattle.sc_data.specs.Refuted.{is_false_clause, equals, equation, IsMember, IsEqualityAxiom}
-use Rattle.sc_data.specs.Proof.{chosen, other, IsParamodulant, IsFlipped}
+use Rattle.sc_term.specs.declared.Term.{Term}
+use Rattle.sc_term.specs.declared.Literal.{Literal}
+use Rattle.sc_term.specs.declared.Clause.{Clause}
+use Rattle.sc_term.specs.declared.Side.{Side}
+use Rattle.sc_term.specs.Term.{term_instance}
+use Rattle.sc_term.specs.Numbering.{numbered, without, with_element}
+use Rattle.sc_term.specs.Path.{IsReplaced}
+use Rattle.sc_term.specs.Refuted.{is_false_clause, equals, equation, IsMember, IsEqualityAxiom}
+use Rattle.sc_term.specs.Proof.{chosen, other, IsParamodulant, IsFlipped}
 use Rattle.sc_steps.proofs.ListLaws.{some_and, at_number, all_append, restored, any_left, any_right, all_both}
 use Rattle.sc_steps.proofs.ChangedElement.{all_changed}
 use Rattle.sc_steps.proofs.Behind.{under_terms, IsSound, by_terms}

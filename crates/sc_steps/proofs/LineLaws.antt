@@ -4,10 +4,10 @@ use Rattle.std.proofs.lemmas.Bool.{eqb-false, eqb-true}
 use Rattle.std.proofs.Math.Seq.{take-append_seam, take-length}
 use Rattle.std.proofs.lemmas.List.{take-append-le}
 use Rattle.std.proofs.lemmas.Option.{slice_get_within}
-use Rattle.sc_data.specs.declared.Clause.{Clause}
-use Rattle.sc_data.specs.declared.Line.{Line}
-use Rattle.sc_data.specs.Numbering.{numbered}
-use Rattle.sc_data.specs.Proof.{clause_of, IsStep, IsStepAt, AreSteps}
+use Rattle.sc_term.specs.declared.Clause.{Clause}
+use Rattle.sc_term.specs.declared.Line.{Line}
+use Rattle.sc_term.specs.Numbering.{numbered}
+use Rattle.sc_term.specs.Proof.{clause_of, IsStep, IsStepAt, AreSteps}
 use Rattle.sc_steps.proofs.ListLaws.{some_and, mapped, at_number, in_front}
 
 -- ---- numbered elements

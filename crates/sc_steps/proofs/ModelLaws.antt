@@ -5,15 +5,15 @@ use Rattle.std.specs.List.{All, AllByRecursion, list_any, list_all, filter}
 use Rattle.std.proofs.lemmas.Bool.{eqb-true, eq-eqb}
 use Rattle.std.proofs.lemmas.Option.{slice_get_within, get_or_from_slice_get}
 use Rattle.std.proofs.lemmas.List.Elements.{All-nil, All-cons}
-use Rattle.sc_data.specs.declared.SymId.{SymId}
-use Rattle.sc_data.specs.declared.Term.{Term}
-use Rattle.sc_data.specs.declared.Literal.{Literal}
-use Rattle.sc_data.specs.declared.Clause.{Clause}
-use Rattle.sc_data.specs.Term.{value_of, term_instance}
-use Rattle.sc_data.specs.Clause.{literal_instance}
-use Rattle.sc_data.specs.Interpretation.{Meaning, Assignment, value_step, value, atom_holds, literal_holds, IsTrueIn}
-use Rattle.sc_data.specs.Refuted.{Atom, same_atom, atom_of, is_true_in, is_false_literal, is_false_clause, IsEqualityAxiom, IsMember, IsRefuted}
-use Rattle.sc_data.proofs.TermLaws.{term_ind, fold-Var, fold-App, instance-Var, instance-App}
+use Rattle.sc_term.specs.declared.SymId.{SymId}
+use Rattle.sc_term.specs.declared.Term.{Term}
+use Rattle.sc_term.specs.declared.Literal.{Literal}
+use Rattle.sc_term.specs.declared.Clause.{Clause}
+use Rattle.sc_term.specs.Term.{value_of, term_instance}
+use Rattle.sc_term.specs.Clause.{literal_instance}
+use Rattle.sc_term.specs.Interpretation.{Meaning, Assignment, value_step, value, atom_holds, literal_holds, IsTrueIn}
+use Rattle.sc_term.specs.Refuted.{Atom, same_atom, atom_of, is_true_in, is_false_literal, is_false_clause, IsEqualityAxiom, IsMember, IsRefuted}
+use Rattle.sc_term.proofs.TermLaws.{term_ind, fold-Var, fold-App, instance-Var, instance-App}
 use Rattle.sc_steps.proofs.SameAtoms.{equal_atoms, same_as_itself}
 
 -- ---- truth values

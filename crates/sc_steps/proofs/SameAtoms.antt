@@ -2,13 +2,13 @@
 use Rattle.std.proofs.Common.{◌≡◌, ◌∙◌, sym, ap, refl, Bool, true, false, ◌&&◌, nat_eq, List, [], ◌∷◌, map}
 use Rattle.std.specs.List.{AllByRecursion}
 use Rattle.std.proofs.lemmas.Bool.{eq-eqb}
-use Rattle.sc_data.specs.declared.Term.{Term, Var, out-Term}
-use Rattle.sc_data.specs.declared.Term.TheVariants.{App}
-use Rattle.sc_data.specs.declared.Term.TheOpen.{Term-F}
-use Rattle.sc_data.specs.declared.Term.TheOpen as at
-use Rattle.sc_data.specs.Refuted.{all_same, same_layer, same_term, same_terms, Atom, same_atom}
-use Rattle.sc_data.proofs.TermLaws.{term_ind, out-Var, out-App, fold-Var, fold-App, same_symbol}
-use Rattle.sc_data.proofs.SameLaws.{equal_terms}
+use Rattle.sc_term.specs.declared.Term.{Term, Var, out-Term}
+use Rattle.sc_term.specs.declared.Term.TheVariants.{App}
+use Rattle.sc_term.specs.declared.Term.TheOpen.{Term-F}
+use Rattle.sc_term.specs.declared.Term.TheOpen as at
+use Rattle.sc_term.specs.Refuted.{all_same, same_layer, same_term, same_terms, Atom, same_atom}
+use Rattle.sc_term.proofs.TermLaws.{term_ind, out-Var, out-App, fold-Var, fold-App, same_symbol}
+use Rattle.sc_term.proofs.SameLaws.{equal_terms}
 
 both : (a b : Bool) → (a && b) ≡ true → (a ≡ true) × (b ≡ true)
 both true b e = (refl, e)

@@ -2,11 +2,11 @@
 use Rattle.std.proofs.Common.{◌≡◌, ◌∙◌, sym, ap, subst, ℕ, ◌+◌, ◌-◌, ◌<◌, ◌≤◌, List, [], ◌∷◌, ◌++◌, length, map, get_or, Some, None, IsSomeAnd, IfOk, arith, inl, inr, length-append, Result, Ok, Err}
 use Rattle.std.proofs.lemmas.List.{length-map}
 use Rattle.std.proofs.lemmas.Option.{slice_get-get_or}
-use Rattle.sc_data.specs.declared.Clause.{Clause}
-use Rattle.sc_data.specs.declared.Line.{Line}
-use Rattle.sc_data.specs.Numbering.{numbered}
-use Rattle.sc_data.specs.Proof.{IsProof}
-use Rattle.sc_steps.specs.declared.derivation.Derived.{Derived}
+use Rattle.sc_term.specs.declared.Clause.{Clause}
+use Rattle.sc_term.specs.declared.Line.{Line}
+use Rattle.sc_term.specs.Numbering.{numbered}
+use Rattle.sc_term.specs.Proof.{IsProof}
+use Rattle.sc_steps.specs.declared.derivations.derivation.Derived.{Derived}
 use Rattle.sc_steps.specs.Derivation.{all_clauses, derived_at, IsInputAt, AreDerived}
 use Rattle.sc_steps.specs.Splice.{AreNeeded, spliced, input_line, join_either, join_clauses, IsSplice, is_input, is_derived}
 use Rattle.sc_steps.proofs.ListLaws.{some_and}

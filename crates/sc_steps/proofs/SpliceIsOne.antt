@@ -1,11 +1,11 @@
 -- The splice of a clause is one list of lines.
 use Rattle.std.proofs.Common.{◌≡◌, ◌∙◌, sym, ap, subst, refl, ℕ, ◌-◌, ◌<◌, List, [], ◌∷◌, length, Some, arith, inl, inr}
 use Rattle.std.specs.List.{AllPairs, Contains}
-use Rattle.sc_data.specs.declared.Clause.{Clause}
-use Rattle.sc_data.specs.declared.Line.{Line}
-use Rattle.sc_data.specs.declared.Step.TheVariants.{Input}
-use Rattle.sc_data.specs.Numbering.{numbered}
-use Rattle.sc_steps.specs.declared.derivation.Derived.{Derived}
+use Rattle.sc_term.specs.declared.Clause.{Clause}
+use Rattle.sc_term.specs.declared.Line.{Line}
+use Rattle.sc_term.specs.declared.Step.TheVariants.{Input}
+use Rattle.sc_term.specs.Numbering.{numbered}
+use Rattle.sc_steps.specs.declared.derivations.derivation.Derived.{Derived}
 use Rattle.sc_steps.specs.Derivation.{derived_at, IsInputAt}
 use Rattle.sc_steps.specs.Splice.{AreNeeded, named_by, input_line, join_clauses, IsSplice, is_input, is_clause, is_derived}
 use Rattle.sc_steps.proofs.ListLaws.{some_and, at_number}

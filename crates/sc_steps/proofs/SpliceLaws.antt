@@ -7,12 +7,12 @@ use Rattle.std.proofs.Math.ListN.{get_or-append}
 use Rattle.std.proofs.lemmas.List.Sums.{fold-append}
 use Rattle.std.proofs.lemmas.Option.{slice_get-map, slice_get_past}
 use Rattle.std.proofs.Math.Seq.{get_or-append_seam}
-use Rattle.sc_data.specs.declared.Clause.{Clause}
-use Rattle.sc_data.specs.declared.Line.{Line}
-use Rattle.sc_data.specs.declared.Step.TheVariants.{Input}
-use Rattle.sc_data.specs.Numbering.{numbered}
-use Rattle.sc_data.specs.Proof.{clause_of, Follows, IsStep, IsStepAt, AreSteps, IsProof}
-use Rattle.sc_steps.specs.declared.derivation.Derived.{Derived}
+use Rattle.sc_term.specs.declared.Clause.{Clause}
+use Rattle.sc_term.specs.declared.Line.{Line}
+use Rattle.sc_term.specs.declared.Step.TheVariants.{Input}
+use Rattle.sc_term.specs.Numbering.{numbered}
+use Rattle.sc_term.specs.Proof.{clause_of, Follows, IsStep, IsStepAt, AreSteps, IsProof}
+use Rattle.sc_steps.specs.declared.derivations.derivation.Derived.{Derived}
 use Rattle.sc_steps.specs.Derivation.{all_clauses, derived_at, IsInputAt, AreDerived}
 use Rattle.sc_steps.specs.Splice.{IsNeeded, goal_itself, named, AreNeeded, named_by, line_of, moved, Joined, join_named, join_line, join_lines, Spliced, input_line, join_derived, join_either, join_clause, join_clauses, IsSplice, is_input, is_clause, is_derived}
 use Rattle.sc_steps.proofs.ListLaws.{some_and, mapped, at_number}

@@ -8,11 +8,11 @@ use Rattle.std.specs.BTreeSet.{BTreeSet, contains, Updates, IsUpperBound, IsEmpt
 use Rattle.std.specs.BTreeMap.{is_at}
 use Rattle.std.proofs.lemmas.Bool.{cases_lt, cases_eq, eqb-true, eqb-false, eq-eqb, or_cases}
 use Rattle.std.proofs.lemmas.List.Kept.{AllPairs-cons}
-use Rattle.sc_data.specs.declared.Clause.{Clause}
-use Rattle.sc_data.specs.declared.Line.{Line}
-use Rattle.sc_data.specs.declared.Step.TheVariants.{Input}
-use Rattle.sc_data.specs.Numbering.{numbered}
-use Rattle.sc_steps.specs.declared.derivation.Derived.{Derived}
+use Rattle.sc_term.specs.declared.Clause.{Clause}
+use Rattle.sc_term.specs.declared.Line.{Line}
+use Rattle.sc_term.specs.declared.Step.TheVariants.{Input}
+use Rattle.sc_term.specs.Numbering.{numbered}
+use Rattle.sc_steps.specs.declared.derivations.derivation.Derived.{Derived}
 use Rattle.sc_steps.specs.Derivation.{all_clauses, derived_at, IsInputAt, AreDerived}
 use Rattle.sc_steps.specs.Splice.{IsNeeded, goal_itself, named, AreNeeded, named_by}
 use Rattle.sc_steps.specs.Walk.{is_number, names, names_of}

@@ -1,12 +1,12 @@
 -- Derived clauses and their derivations. In a derivation `input n` names clause number n: the input clauses have the
 -- first numbers, from 1, and the derived clauses the next.
 use Rattle.std.specs.Prelude.{◌≡◌, ◌<◌, ◌≤◌, ℕ, ◌+◌, ◌-◌, List, [], ◌++◌, Option, Some, IsSomeAnd, length, map, take}
-use Rattle.sc_data.specs.declared.Clause.{Clause}
-use Rattle.sc_data.specs.declared.Line.{Line}
-use Rattle.sc_data.specs.declared.Step.TheVariants.{Input}
-use Rattle.sc_data.specs.Numbering.{numbered}
-use Rattle.sc_data.specs.Proof.{AreSteps, IsStepAt, clause_of}
-use Rattle.sc_steps.specs.declared.derivation.Derived.{Derived}
+use Rattle.sc_term.specs.declared.Clause.{Clause}
+use Rattle.sc_term.specs.declared.Line.{Line}
+use Rattle.sc_term.specs.declared.Step.TheVariants.{Input}
+use Rattle.sc_term.specs.Numbering.{numbered}
+use Rattle.sc_term.specs.Proof.{AreSteps, IsStepAt, clause_of}
+use Rattle.sc_steps.specs.declared.derivations.derivation.Derived.{Derived}
 
 -- the clauses that have a number, in its order
 abbrev pub all_clauses : List Clause → List Derived → List Clause

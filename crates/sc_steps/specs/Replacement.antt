@@ -1,13 +1,13 @@
 -- Terms and literals in which a subterm is replaced.
 use Rattle.std.specs.Prelude.{◌≡◌, ℕ, List, [], ◌∷◌, true}
-use Rattle.sc_data.specs.declared.SymId.{SymId}
-use Rattle.sc_data.specs.declared.Term.{Term}
-use Rattle.sc_data.specs.declared.Term.TheVariants.{App}
-use Rattle.sc_data.specs.declared.Literal.{Literal}
-use Rattle.sc_data.specs.declared.Side.{Side}
-use Rattle.sc_data.specs.Path.{IsReplaced}
-use Rattle.sc_data.specs.Proof.{chosen, other}
-use Rattle.sc_data.specs.Refuted.{equation, equals}
+use Rattle.sc_term.specs.declared.SymId.{SymId}
+use Rattle.sc_term.specs.declared.Term.{Term}
+use Rattle.sc_term.specs.declared.Term.TheVariants.{App}
+use Rattle.sc_term.specs.declared.Literal.{Literal}
+use Rattle.sc_term.specs.declared.Side.{Side}
+use Rattle.sc_term.specs.Path.{IsReplaced}
+use Rattle.sc_term.specs.Proof.{chosen, other}
+use Rattle.sc_term.specs.Refuted.{equation, equals}
 
 -- the term becomes `new` where its subterm s at the path, the term itself for the empty path, is replaced by t
 abbrev pub IsTermReplaced : Term → List ℕ → Term → Term → Term → Type 0

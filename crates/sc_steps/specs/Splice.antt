@@ -1,12 +1,12 @@
 -- The proof of a clause, put together from the derivations.
 use Rattle.std.specs.Prelude.{◌≡◌, ◌<◌, ℕ, ◌+◌, ◌-◌, List, [], ◌∷◌, ◌++◌, Option, Some, None, IsSomeAnd, length, fold, slice_index, nat_eq, if◌then◌else◌, ◌↔◌, Contains}
 use Rattle.std.specs.List.{AllPairs}
-use Rattle.sc_data.specs.declared.Clause.{Clause}
-use Rattle.sc_data.specs.declared.Line.{Line}
-use Rattle.sc_data.specs.declared.Step.{Step}
-use Rattle.sc_data.specs.declared.Step.TheVariants.{Input, Instance, Resolve, Merge, Para, Flip}
-use Rattle.sc_data.specs.Numbering.{numbered}
-use Rattle.sc_steps.specs.declared.derivation.Derived.{Derived}
+use Rattle.sc_term.specs.declared.Clause.{Clause}
+use Rattle.sc_term.specs.declared.Line.{Line}
+use Rattle.sc_term.specs.declared.Step.{Step}
+use Rattle.sc_term.specs.declared.Step.TheVariants.{Input, Instance, Resolve, Merge, Para, Flip}
+use Rattle.sc_term.specs.Numbering.{numbered}
+use Rattle.sc_steps.specs.declared.derivations.derivation.Derived.{Derived}
 use Rattle.sc_steps.specs.Derivation.{derived_at, IsInputAt}
 
 -- the goal, and each clause that the derivation of a needed one names

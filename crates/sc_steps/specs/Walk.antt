@@ -5,8 +5,8 @@ use Rattle.std.specs.Option.{unwrap_or}
 use Rattle.std.specs.Ordering.{nat_cmp}
 use Rattle.std.specs.BTreeMap.{BTreeMap}
 use Rattle.std.specs.BTreeMap as tree
-use Rattle.sc_data.specs.declared.Line.{Line}
-use Rattle.sc_steps.specs.declared.derivation.Derived.{Derived}
+use Rattle.sc_term.specs.declared.Line.{Line}
+use Rattle.sc_steps.specs.declared.derivations.derivation.Derived.{Derived}
 use Rattle.sc_steps.specs.Splice.{named_by}
 
 -- the last line of clause n, 0 where the map has none

@@ -1,6 +1,6 @@
 -- What is left to try becomes less, when a literal is taken to a place and when the last choice is made otherwise.
 use Rattle.std.proofs.Common.{◌≡◌, ap, ℕ, zero, suc, ◌+◌, ◌-◌, ◌*◌, ◌<◌, ◌≤◌, List, [], ◌∷◌, ◌++◌, length, arith}
-use Rattle.sc_subsume.specs.declared.search.Choice.{Choice}
+use Rattle.sc_subsume.specs.declared.search.Branch.{Branch}
 use Rattle.sc_subsume.specs.Search.{worth, left_to_try}
 
 worth-positive : (size n : ℕ) → 1 ≤ worth size n
@@ -25,7 +25,7 @@ one_more a b w h = grind arith
 positive : (a w : ℕ) → 1 ≤ a → 1 ≤ w → 1 ≤ a * w
 positive a w h k = grind arith
 
-pub chosen : (size n : ℕ) (choices : List Choice) (one : Choice) (next : ℕ) → length choices < n → next ≤ one.place → one.place < size
+pub chosen : (size n : ℕ) (choices : List Branch) (one : Branch) (next : ℕ) → length choices < n → next ≤ one.place → one.place < size
     → left_to_try size n (choices ++ one ∷ []) 0 < left_to_try size n choices next
 unfolding left_to_try
 chosen size zero choices one next few least within = absurd (omega arith)
@@ -36,7 +36,7 @@ chosen size (suc n) [] one next few least within =
     same = ap (λ k. k * worth size n) (let e : size + 1 - 0 ≡ size + 1 = omega arith in e)
 chosen size (suc n) (other ∷ more) one next few least within = omega (arith, chosen size n more one next (omega arith) least within)
 
-pub undone : (size n : ℕ) (choices : List Choice) (one : Choice) (next : ℕ) → length choices < n → next ≤ size → one.place < size
+pub undone : (size n : ℕ) (choices : List Branch) (one : Branch) (next : ℕ) → length choices < n → next ≤ size → one.place < size
     → left_to_try size n choices (one.place + 1) < left_to_try size n (choices ++ one ∷ []) next
 unfolding left_to_try
 undone size zero choices one next few within place = absurd (omega arith)

@@ -4,16 +4,16 @@ use Rattle.std.proofs.lemmas.Bool.{eq-eqb}
 use Rattle.std.proofs.lemmas.List.{take-append-drop, drop_all}
 use Rattle.std.specs.List.{AllByRecursion}
 use Rattle.std.specs.Option.{unwrap_or}
-use Rattle.sc_data.specs.declared.Literal.{Literal}
-use Rattle.sc_data.specs.declared.Term.{Term, Var}
-use Rattle.sc_data.specs.Substitution.{Substitution}
-use Rattle.sc_data.proofs.SubstitutionLaws.{all_split, all_join}
+use Rattle.sc_term.specs.declared.Literal.{Literal}
+use Rattle.sc_term.specs.declared.Term.{Term, Var}
+use Rattle.sc_term.specs.Substitution.{Substitution}
+use Rattle.sc_term.proofs.SubstitutionLaws.{all_split, all_join}
 use Rattle.sc_unify.specs.declared.bound.Binding.{Binding}
 use Rattle.sc_unify.specs.Bindings.{lookup}
 use Rattle.sc_unify.specs.Matching.{Gives, IsFunctional}
 use Rattle.sc_unify.proofs.TermFacts.{all_so}
 use Rattle.sc_subsume.specs.declared.bound.Bound.{Bound}
-use Rattle.sc_subsume.specs.declared.search.Choice.{Choice}
+use Rattle.sc_subsume.specs.declared.search.Branch.{Branch}
 use Rattle.sc_subsume.specs.Search.{bindings, Extends, Hits, HasNoPlace, IsFirstPlace, Reaches, IsOpen, IsWaiting, AreRising, IsSearch, GoesInto}
 use Rattle.sc_subsume.proofs.TakingLaws.{front}
 use Rattle.sc_subsume.proofs.TermsLaws.{begin, finish, goes_or_open}
@@ -78,15 +78,15 @@ given bs h = (
 
 -- ---- rising numbers
 
-rises : (low now : ℕ) (choices : List Choice) → AreRising low choices now → low ≤ now
+rises : (low now : ℕ) (choices : List Branch) → AreRising low choices now → low ≤ now
 rises low now [] h = h
 rises low now (one ∷ more) h = omega (arith, h.0, rises one.bound now more h.1)
 
-rising_more : (low now later : ℕ) (choices : List Choice) (one : Choice) → AreRising low choices now → one.bound ≡ now → now ≤ later → AreRising low (choices ++ one ∷ []) later
+rising_more : (low now later : ℕ) (choices : List Branch) (one : Branch) → AreRising low choices now → one.bound ≡ now → now ≤ later → AreRising low (choices ++ one ∷ []) later
 rising_more low now later [] one h same le = (omega (arith, h), omega arith)
 rising_more low now later (other ∷ more) one h same le = (h.0, rising_more other.bound now later more one h.1 same le)
 
-rising_less : (low now : ℕ) (choices : List Choice) (one : Choice) → AreRising low (choices ++ one ∷ []) now → AreRising low choices one.bound × (one.bound ≤ now)
+rising_less : (low now : ℕ) (choices : List Branch) (one : Branch) → AreRising low (choices ++ one ∷ []) now → AreRising low choices one.bound × (one.bound ≤ now)
 rising_less low now [] one h = (h.0, h.1)
 rising_less low now (other ∷ more) one h = let rest = rising_less other.bound now more one h.1 in ((h.0, rest.0), rest.1)
 
@@ -124,14 +124,14 @@ last_tried place size tried old new within grown taken last = elim (beyond (leng
   | inr less ↦ (let same = taken less in record { least = omega (arith, same); within = omega (arith, same); why = inl same })
 ]
 
-pub fewer : (now : List Choice) (last : Choice) → length now ≤ length (now ++ last ∷ [])
+pub fewer : (now : List Branch) (last : Branch) → length now ≤ length (now ++ last ∷ [])
 fewer [] last = omega arith
 fewer (x ∷ xs) last = omega (arith, fewer xs last)
 
 module _ (c d : List Literal) where
   -- ---- choices
 
-  waiting_same : (bs new : List Binding) (n low i : ℕ) (choices : List Choice) → AreRising low choices n → take n bs ≡ take n new → IsWaiting c d bs i choices → IsWaiting c d new i choices
+  waiting_same : (bs new : List Binding) (n low i : ℕ) (choices : List Branch) → AreRising low choices n → take n bs ≡ take n new → IsWaiting c d bs i choices → IsWaiting c d new i choices
   waiting_same bs new n low i [] rising e h = h
   waiting_same bs new n low i (one ∷ more) rising e (inl h) =
       let less = rises one.bound n more rising.1 in
@@ -139,10 +139,10 @@ module _ (c d : List Literal) where
       inl (subst (λ l. IsOpen c d l i (one.place + 1)) part h)
   waiting_same bs new n low i (one ∷ more) rising e (inr h) = inr (waiting_same bs new n one.bound (i + 1) more rising.1 e h)
 
-  abbrev Last : List Binding → ℕ → Choice → Type 0
+  abbrev Last : List Binding → ℕ → Branch → Type 0
   Last bs i one = IsOpen c d (take one.bound bs) i (one.place + 1)
 
-  waiting_last : (bs : List Binding) (i j : ℕ) (choices : List Choice) (one : Choice) → j ≡ i + length choices → IsWaiting c d bs i (choices ++ one ∷ []) → IsWaiting c d bs i choices ⊎ Last bs j one
+  waiting_last : (bs : List Binding) (i j : ℕ) (choices : List Branch) (one : Branch) → j ≡ i + length choices → IsWaiting c d bs i (choices ++ one ∷ []) → IsWaiting c d bs i choices ⊎ Last bs j one
   waiting_last bs i j [] one e (inl h) = inr (subst (λ k. Last bs k one) (let same : i ≡ j = omega (arith, e) in same) h)
   waiting_last bs i j [] one e (inr h) = inl h
   waiting_last bs i j (other ∷ more) one e (inl h) = inl (inl h)
@@ -151,12 +151,12 @@ module _ (c d : List Literal) where
     | inr last ↦ inr last
   ]
 
-  waits_before : (bs : List Binding) (i : ℕ) (choices : List Choice) (one : Choice) → IsWaiting c d bs i choices → IsWaiting c d bs i (choices ++ one ∷ [])
+  waits_before : (bs : List Binding) (i : ℕ) (choices : List Branch) (one : Branch) → IsWaiting c d bs i choices → IsWaiting c d bs i (choices ++ one ∷ [])
   waits_before bs i [] one h = absurd h
   waits_before bs i (other ∷ more) one (inl h) = inl h
   waits_before bs i (other ∷ more) one (inr h) = inr (waits_before bs (i + 1) more one h)
 
-  waits_last : (bs : List Binding) (i j : ℕ) (choices : List Choice) (one : Choice) → j ≡ i + length choices → Last bs j one → IsWaiting c d bs i (choices ++ one ∷ [])
+  waits_last : (bs : List Binding) (i j : ℕ) (choices : List Branch) (one : Branch) → j ≡ i + length choices → Last bs j one → IsWaiting c d bs i (choices ++ one ∷ [])
   waits_last bs i j [] one e h = inl (subst (λ k. Last bs k one) (let same : j ≡ i = omega (arith, e) in same) h)
   waits_last bs i j (other ∷ more) one e h = inr (waits_last bs (i + 1) j more one (omega (arith, e)) h)
 
@@ -217,7 +217,7 @@ module _ (c d : List Literal) where
     within = omega arith;
   }
 
-  pub chosen : (old new : List Bound) (choices now : List Choice) (next place : ℕ) (l : Literal) (one : Choice)
+  pub chosen : (old new : List Bound) (choices now : List Branch) (next place : ℕ) (l : Literal) (one : Branch)
       → IsSearch c d old choices next → length choices < length c → l ≡ get_or c (length choices) l → IsFirstPlace l d next place old new
       → IsLastTried place (length d) one.place old new → one.bound ≡ length old → now ≡ choices ++ one ∷ [] → IsSearch c d new now 0
   chosen old new choices now next place l one is few at h tried same_bound grown = subst (λ cs. IsSearch c d new cs 0) (sym grown) (record {
@@ -239,7 +239,7 @@ module _ (c d : List Literal) where
     );
     functional = h.functional is.functional;
     rising = rising_more 0 (length old) (length new) choices one is.rising same_bound longer;
-    places = all_join (λ (o : Choice). o.place < length d) choices (one ∷ []) is.places (tried.within, tt);
+    places = all_join (λ (o : Branch). o.place < length d) choices (one ∷ []) is.places (tried.within, tt);
     few = omega (arith, more);
     within = omega arith;
   })
@@ -247,7 +247,7 @@ module _ (c d : List Literal) where
       more : length (choices ++ one ∷ []) ≡ suc (length choices)
       more = by choices
         where
-          by : (cs : List Choice) → length (cs ++ one ∷ []) ≡ suc (length cs)
+          by : (cs : List Branch) → length (cs ++ one ∷ []) ≡ suc (length cs)
           by [] = refl
           by (x ∷ xs) = ap suc (by xs)
 
@@ -272,7 +272,7 @@ module _ (c d : List Literal) where
       part : take one.bound (bindings new) ≡ bindings old
       part = ap (λ n. take n (bindings new)) same_bound ∙ sym (bindings_take (length old) new) ∙ whole
 
-  pub undone : (old mid new : List Bound) (choices now : List Choice) (next : ℕ) (l : Literal) (last : Choice)
+  pub undone : (old mid new : List Bound) (choices now : List Branch) (next : ℕ) (l : Literal) (last : Branch)
       → IsSearch c d old choices next → length choices < length c → l ≡ get_or c (length choices) l → HasNoPlace l d next old mid
       → choices ≡ now ++ last ∷ [] → new ≡ take last.bound mid → IsSearch c d new now (last.place + 1)
   undone old mid new choices now next l last is few at none were cut = record {
@@ -299,8 +299,8 @@ module _ (c d : List Literal) where
       rising : AreRising 0 now last.bound × (last.bound ≤ length old)
       rising = rising_less 0 (length old) now last (subst (λ cs. AreRising 0 cs (length old)) were is.rising)
 
-      places : AllByRecursion (λ (o : Choice). o.place < length d) now × AllByRecursion (λ (o : Choice). o.place < length d) (last ∷ [])
-      places = all_split (λ (o : Choice). o.place < length d) now (last ∷ []) (subst (AllByRecursion (λ (o : Choice). o.place < length d)) were is.places)
+      places : AllByRecursion (λ (o : Branch). o.place < length d) now × AllByRecursion (λ (o : Branch). o.place < length d) (last ∷ [])
+      places = all_split (λ (o : Branch). o.place < length d) now (last ∷ []) (subst (AllByRecursion (λ (o : Branch). o.place < length d)) were is.places)
 
       cut_is : new ≡ take last.bound old
       cut_is = cut ∙ ap (take last.bound) none.kept
@@ -322,16 +322,16 @@ module _ (c d : List Literal) where
       shorter : length now ≤ length choices
       shorter = omega (arith, fewer now last, ap length were)
 
-  pub last_place : (old : List Bound) (choices now : List Choice) (next : ℕ) (last : Choice) → IsSearch c d old choices next → choices ≡ now ++ last ∷ [] → last.place < length d
+  pub last_place : (old : List Bound) (choices now : List Branch) (next : ℕ) (last : Branch) → IsSearch c d old choices next → choices ≡ now ++ last ∷ [] → last.place < length d
   last_place old choices now next last is were =
-      (all_split (λ (o : Choice). o.place < length d) now (last ∷ []) (subst (AllByRecursion (λ (o : Choice). o.place < length d)) were is.places)).1.0
+      (all_split (λ (o : Branch). o.place < length d) now (last ∷ []) (subst (AllByRecursion (λ (o : Branch). o.place < length d)) were is.places)).1.0
 
-  pub found : (bound : List Bound) (choices : List Choice) (next : ℕ) → IsSearch c d bound choices next → length c ≤ length choices → GoesInto c d
+  pub found : (bound : List Bound) (choices : List Branch) (next : ℕ) → IsSearch c d bound choices next → length c ≤ length choices → GoesInto c d
   found bound choices next is all =
       let s = given (bindings bound) is.functional in
       (goes_or_open d c).1 (is.same.1 (inl (s.0, s.1, subst (λ ls. Reaches s.0 ls d next) (sym (drop_all (length choices) c all)) tt)))
 
-  pub not_found : (old mid : List Bound) (choices : List Choice) (next : ℕ) (l : Literal) → IsSearch c d old choices next → choices ≡ []
+  pub not_found : (old mid : List Bound) (choices : List Branch) (next : ℕ) (l : Literal) → IsSearch c d old choices next → choices ≡ []
       → length choices < length c → l ≡ get_or c (length choices) l → HasNoPlace l d next old mid → ¬ GoesInto c d
   not_found old mid choices next l is none few at h goes = elim (is.same.0 ((goes_or_open d c).0 goes)) [
     | inl here ↦ closed (length choices) next l few at old mid h here

@@ -1,9 +1,9 @@
 -- One literal taken to another, and to the first place of a list that it can be taken to.
 use Rattle.std.proofs.Common.{◌≡◌, ◌≢◌, ◌∙◌, sym, ap, refl, ℕ, ◌+◌, ◌<◌, ◌≤◌, ◌↔◌, List, [], ◌∷◌, ◌++◌, append_assoc, map, length, get_or, slice_get, take, Some, arith}
 use Rattle.std.proofs.lemmas.Option.{slice_get_read}
-use Rattle.sc_data.specs.declared.Literal.{Literal}
-use Rattle.sc_data.specs.Term.{term_under}
-use Rattle.sc_data.specs.Substitution.{Substitution, literal_under}
+use Rattle.sc_term.specs.declared.Literal.{Literal}
+use Rattle.sc_term.specs.Term.{term_under}
+use Rattle.sc_term.specs.Substitution.{Substitution, literal_under}
 use Rattle.sc_unify.specs.Matching.{Gives, IsMatched}
 use Rattle.sc_unify.proofs.TermFacts.{same_or_not}
 use Rattle.sc_subsume.specs.declared.bound.Bound.{Bound}

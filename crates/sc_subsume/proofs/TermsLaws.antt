@@ -3,12 +3,12 @@ use Rattle.std.proofs.Common.{◌≡◌, ◌∙◌, sym, ap, ℕ, zero, suc, ◌
 use Rattle.std.proofs.lemmas.Option.{slice_get-get_or, get_or_from_slice_get}
 use Rattle.std.proofs.lemmas.List.Elements.{All-from_recursion, recursion_from_All}
 use Rattle.std.specs.List.{AllByRecursion, fold}
-use Rattle.sc_data.specs.declared.Literal.{Literal}
-use Rattle.sc_data.specs.declared.Term.{Term, Var}
-use Rattle.sc_data.specs.Term.{joined, largest, value_of}
-use Rattle.sc_data.specs.Clause.{literal_instance}
-use Rattle.sc_data.specs.Substitution.{Substitution, literal_under}
-use Rattle.sc_data.proofs.SubstitutionLaws.{all_split, literal_laws, literal_variables}
+use Rattle.sc_term.specs.declared.Literal.{Literal}
+use Rattle.sc_term.specs.declared.Term.{Term, Var}
+use Rattle.sc_term.specs.Term.{joined, largest, value_of}
+use Rattle.sc_term.specs.Clause.{literal_instance}
+use Rattle.sc_term.specs.Substitution.{Substitution, literal_under}
+use Rattle.sc_term.proofs.SubstitutionLaws.{all_split, literal_laws, literal_variables}
 use Rattle.sc_unify.proofs.TermFacts.{all_so}
 use Rattle.sc_unify.proofs.Rows.{at_least}
 use Rattle.sc_subsume.specs.Search.{GoesInto, Hits, Reaches, IsOpen}

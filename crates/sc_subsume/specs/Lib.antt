@@ -1,2 +1,1 @@
-pub mod Subsumption
 pub mod Search

@@ -1,15 +1,15 @@
 -- The search for terms that take each literal of one list to a literal of another.
 use Rattle.std.specs.Prelude.{◌≡◌, ◌≢◌, ◌<◌, ◌≤◌, ◌↔◌, ◌⊎◌, ℕ, zero, suc, ◌+◌, ◌-◌, ◌*◌, List, [], ◌∷◌, ◌++◌, map, length, take, drop, slice_get, All, Contains, Bool, true, false, Some}
 use Rattle.std.specs.List.{AllByRecursion}
-use Rattle.sc_data.specs.declared.Term.{Term}
-use Rattle.sc_data.specs.declared.Literal.{Literal}
-use Rattle.sc_data.specs.Clause.{literal_instance}
-use Rattle.sc_data.specs.Substitution.{Substitution, literal_under}
+use Rattle.sc_term.specs.declared.Term.{Term}
+use Rattle.sc_term.specs.declared.Literal.{Literal}
+use Rattle.sc_term.specs.Clause.{literal_instance}
+use Rattle.sc_term.specs.Substitution.{Substitution, literal_under}
 use Rattle.sc_unify.specs.declared.bound.Binding.{Binding}
 use Rattle.sc_unify.specs.Matching.{Gives, IsFunctional}
 use Rattle.sc_subsume.specs.declared.bound.Bound.{Bound}
 use Rattle.sc_subsume.specs.declared.order.Asked.{Asked}
-use Rattle.sc_subsume.specs.declared.search.Choice.{Choice}
+use Rattle.sc_subsume.specs.declared.search.Branch.{Branch}
 
 -- ---- what is asked
 
@@ -82,20 +82,20 @@ abbrev pub IsOpen : List Literal → List Literal → List Binding → ℕ → �
 IsOpen c d bs i first = (s : Substitution) × Gives s bs × Reaches s (drop i c) d first
 
 -- one of the choices, of which the first is for literal i, can be made otherwise
-abbrev pub IsWaiting : List Literal → List Literal → List Binding → ℕ → List Choice → Type 0
+abbrev pub IsWaiting : List Literal → List Literal → List Binding → ℕ → List Branch → Type 0
 IsWaiting c d bs i [] = ⊥
 IsWaiting c d bs i (one ∷ more) = IsOpen c d (take one.bound bs) i (one.place + 1) ⊎ IsWaiting c d bs (i + 1) more
 
 -- the numbers of bindings before each choice rise, from the first number to the last
-abbrev pub AreRising : ℕ → List Choice → ℕ → Type 0
+abbrev pub AreRising : ℕ → List Branch → ℕ → Type 0
 AreRising low [] now = low ≤ now
 AreRising low (one ∷ more) now = (low ≤ one.bound) × AreRising one.bound more now
 
-pub record IsSearch (c d : List Literal) (bound : List Bound) (choices : List Choice) (next : ℕ) : Type 0 where
+pub record IsSearch (c d : List Literal) (bound : List Bound) (choices : List Branch) (next : ℕ) : Type 0 where
   pub same : IsOpen c d [] 0 0 ↔ (IsOpen c d (bindings bound) (length choices) next ⊎ IsWaiting c d (bindings bound) 0 choices)
   pub functional : IsFunctional (bindings bound)
   pub rising : AreRising 0 choices (length bound)
-  pub places : AllByRecursion (λ (one : Choice). one.place < length d) choices
+  pub places : AllByRecursion (λ (one : Branch). one.place < length d) choices
   pub few : length choices ≤ length c
   pub within : next ≤ length d
 
@@ -107,7 +107,7 @@ worth size zero = 1
 worth size (suc n) = (size + 2) * worth size n
 
 -- how much can still be tried, of n literals each of which has so many places
-unfoldable pub left_to_try : ℕ → ℕ → List Choice → ℕ → ℕ
+unfoldable pub left_to_try : ℕ → ℕ → List Branch → ℕ → ℕ
 left_to_try size n [] next = (size + 1 - next) * worth size n
 left_to_try size zero (one ∷ more) next = 0
 left_to_try size (suc n) (one ∷ more) next = (size - one.place) * worth size (suc n) + left_to_try size n more next

@@ -5,7 +5,7 @@ ghost use Rattle.std.specs.Option.{option_copied};
 ghost use Rattle.sc_unify.specs.Bindings.{lookup};
 ghost use Rattle.sc_subsume.specs.Search.{bindings};
 
-use sc_data::Term;
+use sc_term::Term;
 
 /// A variable and the term that it was given, whose own variables are constants.
 #[derive(Clone, Copy)]

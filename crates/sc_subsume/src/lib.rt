@@ -1,6 +1,6 @@
 //! Subsumption and tautologies.
 //!
-//! It stands on the terms, literals and instances that sc_data defines and proves laws of, on sc_term's comparisons,
+//! It stands on the terms, literals and instances that sc_term defines and proves laws of, on sc_term's comparisons,
 //! and on sc_unify's laws of bindings; specs/Subsumption says what the two calls decide. Callers may rest on these:
 //! `subsumes` answers true exactly where the first clause has no more literals than the second and some terms take
 //! each of its literals to a literal of the second, and want of memory is its one other answer; `is_tautology` takes no
@@ -22,6 +22,3 @@ mod tautology;
 
 pub use subsumption::subsumes;
 pub use tautology::is_tautology;
-
-#[cfg(test)]
-mod tests;

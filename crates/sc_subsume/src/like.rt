@@ -4,7 +4,7 @@ ghost use Rattle.std.specs.Prelude.{◌↔◌, All, IsTrue};
 ghost use Rattle.std.specs.List.{Any};
 ghost use Rattle.sc_subsume.specs.Search.{AreLike};
 
-use sc_data::Literal;
+use sc_term::Literal;
 
 /// Whether the two have the same sign and predicate.
 pub fn are_like(l: &Literal, m: &Literal) -> bool

@@ -1,14 +1,13 @@
 //! Matching: bindings that make one literal another, whose variables stay as they are.
 
 ghost use Rattle.std.specs.Prelude.{◌≡◌, ◌≢◌, ◌∷◌, ◌≤◌, [], length, map, IfOk, MatchOption};
-ghost use Rattle.sc_data.specs.Term.{joined, term_under, term_variables};
+ghost use Rattle.sc_term.specs.Term.{joined, term_under, term_variables};
 ghost use Rattle.sc_unify.specs.Matching.{Matches};
 ghost use Rattle.sc_subsume.specs.Search.{bindings, Extends, Takes, HasNoPlace, IsFirstPlace};
 
 use crate::bound::{Bound, find};
 use crate::like::are_like;
-use sc_data::{Literal, Term};
-use sc_term::{Mem, same_term};
+use sc_term::{Literal, Mem, Term, same_term};
 
 /// Gives the variable the term, unless it has another one. Whether it can.
 fn match_variable<'a>(n: u32, target: &'a Term, bound: &mut Vec<Bound<'a>>) -> Mem<bool>

@@ -7,8 +7,7 @@ ghost use Rattle.sc_subsume.specs.Search.{literals};
 
 use crate::bound::Bound;
 use crate::matching::match_literal;
-use sc_data::Literal;
-use sc_term::Mem;
+use sc_term::{Literal, Mem};
 use std::alloc::Global;
 
 /// A literal that is to be taken to another, and how many it can be taken to by itself, as far as that was counted.

@@ -6,14 +6,12 @@ ghost use Rattle.sc_subsume.specs.Search.{GoesInto, literals};
 use crate::bound::Bound;
 use crate::matching::next_place;
 use crate::order::Asked;
-use sc_data::Literal;
-use sc_term::Mem;
-use sqlite_items::Items;
+use sc_term::{List, Literal, Mem};
 use std::alloc::Global;
 
-/// What was chosen for a literal.
+/// Where the search can go back to: what was chosen for a literal.
 #[derive(Clone, Copy)]
-pub struct Choice {
+pub struct Branch {
     /// The place that it was taken to, or the last of all where no other can lead further.
     pub place: usize,
     /// How many bindings there were before.
@@ -47,13 +45,13 @@ pub fn goes_into(alloc: Global, c: &[Asked], d: &[Literal]) -> Mem<bool>
     ensures { IfOk result (λ can. IsTrue can ↔ GoesInto (literals c.now) d.now) }
 {
     let mut bound: Vec<Bound> = Vec::new(alloc);
-    let mut choices: Items<Choice> = Items::new(alloc);
+    let mut choices: List<Branch> = List::new(alloc);
     let mut next = 0;
     while choices.len() < c.len() {
         let before = bound.len();
         match next_place(c[choices.len()].literal, d, next, &mut bound)? {
             Some(place) => {
-                choices.push(Choice {
+                choices.push(Branch {
                     place: last_tried(place, d.len(), before, bound.len()),
                     bound: before,
                 })?;

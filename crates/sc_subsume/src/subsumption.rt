@@ -1,13 +1,12 @@
 //! Subsumption.
 
 ghost use Rattle.std.specs.Prelude.{◌↔◌, IfOk, IsTrue};
-ghost use Rattle.sc_subsume.specs.Subsumption.{Subsumes};
+ghost use Rattle.sc_term.specs.Subsumption.{Subsumes};
 
 use crate::like::each_has_like;
 use crate::order::by_candidates;
 use crate::search::{goes_into, one_goes_into};
-use sc_data::Clause;
-use sc_term::Mem;
+use sc_term::{Clause, Mem};
 use std::alloc::Global;
 
 /// Whether `c` has no more literals than `d`, and some terms in place of its variables take each of its literals to one

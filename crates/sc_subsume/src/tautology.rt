@@ -1,14 +1,13 @@
 //! Tautologies.
 
 ghost use Rattle.std.specs.Prelude.{◌≡◌, ◌↔◌, Contains, IsTrue, true};
-ghost use Rattle.sc_data.specs.declared.Literal.{Literal as ALiteral};
-ghost use Rattle.sc_data.specs.declared.Term.{Term as ATerm};
-ghost use Rattle.sc_data.specs.Proof.{AreOpposite};
-ghost use Rattle.sc_data.specs.Refuted.{equation};
-ghost use Rattle.sc_subsume.specs.Subsumption.{IsTautology};
+ghost use Rattle.sc_term.specs.declared.Literal.{Literal as ALiteral};
+ghost use Rattle.sc_term.specs.declared.Term.{Term as ATerm};
+ghost use Rattle.sc_term.specs.Proof.{AreOpposite};
+ghost use Rattle.sc_term.specs.Refuted.{equation};
+ghost use Rattle.sc_term.specs.Subsumption.{IsTautology};
 
-use sc_data::{Clause, Literal, SymId};
-use sc_term::{same_term, same_terms};
+use sc_term::{Clause, Literal, SymId, same_term, same_terms};
 
 /// Whether the two have opposite signs and the same atom.
 fn are_opposite(l: &Literal, m: &Literal) -> bool

@@ -3,8 +3,8 @@ use Rattle.std.proofs.Common.{◌≡◌, ◌∙◌, sym, ap, refl, ℕ, zero, su
 use Rattle.std.specs.List.{list_any, fold}
 use Rattle.std.proofs.lemmas.Bool.{eqb-true, eqb-false, eq-eqb}
 use Rattle.std.proofs.lemmas.List.Folds.{list_any-append}
-use Rattle.sc_data.specs.Term.{joined, largest}
-use Rattle.sc_data.specs.Clause.{firsts, firsts_after}
+use Rattle.sc_term.specs.Term.{joined, largest}
+use Rattle.sc_term.specs.Clause.{firsts, firsts_after}
 use Rattle.sc_term.specs.Occurrence.{noted}
 
 pub noted-append : (order xs ys : List ℕ) → noted order (xs ++ ys) ≡ noted (noted order xs) ys

@@ -1,10 +1,10 @@
 -- Renamed variables, and lists of variables in the order in which they first occur.
 use Rattle.std.specs.Prelude.{ℕ, ◌+◌, List, [], ◌∷◌, ◌++◌, map, nat_eq, if◌then◌else◌}
 use Rattle.std.specs.List.{list_any}
-use Rattle.sc_data.specs.declared.Term.{Var}
-use Rattle.sc_data.specs.declared.Literal.{Literal}
-use Rattle.sc_data.specs.Substitution.{Substitution}
-use Rattle.sc_data.specs.Term.{joined, term_variables}
+use Rattle.sc_term.specs.declared.Term.{Var}
+use Rattle.sc_term.specs.declared.Literal.{Literal}
+use Rattle.sc_term.specs.Substitution.{Substitution}
+use Rattle.sc_term.specs.Term.{joined, term_variables}
 
 -- each variable greater by the number
 abbrev pub shift_by : ℕ → Substitution

@@ -3,8 +3,7 @@
 ghost use Rattle.std.specs.Prelude.{◌≡◌, IfOk};
 
 use crate::memory::Mem;
-use sc_data::{Clause, Literal, Term};
-use sqlite_items::Items;
+use crate::{Clause, List, Literal, Term};
 use std::alloc::Global;
 
 /// A term equal to this one.
@@ -23,10 +22,10 @@ pub fn copy_term(alloc: Global, t: &Term) -> Mem<Term>
 
 /// Terms equal to these, in order.
 #[cycle(copy)]
-pub fn copy_terms(alloc: Global, terms: &[Term]) -> Mem<Items<Term>>
+pub fn copy_terms(alloc: Global, terms: &[Term]) -> Mem<List<Term>>
     ensures { IfOk result (λ r. r ≡ terms.now) }
 {
-    let mut copies = Items::new(alloc);
+    let mut copies = List::new(alloc);
     for term in terms {
         copies.push(copy_term(alloc, term)?)?;
     }
@@ -48,7 +47,7 @@ pub fn copy_literal(alloc: Global, l: &Literal) -> Mem<Literal>
 pub fn copy(alloc: Global, c: &Clause) -> Mem<Clause>
     ensures { IfOk result (λ r. r ≡ c.now) }
 {
-    let mut literals = Items::new(alloc);
+    let mut literals = List::new(alloc);
     for literal in c.literals.as_slice() {
         literals.push(copy_literal(alloc, literal)?)?;
     }

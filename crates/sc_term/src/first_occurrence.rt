@@ -1,16 +1,15 @@
 //! Numbering variables by first occurrence.
 
-ghost use Rattle.std.specs.Prelude.{◌≡◌, ◌+◌, ◌<◌, ◌≤◌, ◌^◌, ◌∷◌, [], map, nat_eq, IfOk, OnOk};
+ghost use Rattle.std.specs.Prelude.{◌≡◌, ◌+◌, ◌<◌, ◌≤◌, ◌^◌, ◌∷◌, [], map, nat_eq, IfOk, OnErr, OnOk};
 ghost use Rattle.std.specs.List.{position_or_len};
-ghost use Rattle.sc_data.specs.Term.{joined, term_under, term_variables};
-ghost use Rattle.sc_data.specs.Clause as of;
-ghost use Rattle.sc_data.specs.Substitution.{literal_under};
-ghost use Rattle.sc_data.specs.JointInstance as joint;
+ghost use Rattle.sc_term.specs.Term.{joined, term_under, term_variables};
+ghost use Rattle.sc_term.specs.Clause as of;
+ghost use Rattle.sc_term.specs.Substitution.{literal_under};
+ghost use Rattle.sc_term.specs.JointInstance as joint;
 ghost use Rattle.sc_term.specs.Occurrence.{noted, literal_variables};
 
 use crate::memory::{Mem, OutOfMemory};
-use sc_data::{Clause, Literal, Term};
-use sqlite_items::Items;
+use crate::{Clause, List, Literal, Term};
 use std::alloc::Global;
 
 fn note(n: u32, order: &mut Vec<u32>) -> Mem<()>
@@ -42,7 +41,8 @@ fn note_terms(terms: &[Term], order: &mut Vec<u32>) -> Mem<()>
     Ok(())
 }
 
-/// Adds the variables of the clause to the list, each once, in the order in which they first occur.
+/// Adds the variables of the clause to the list, each once, in the order in which they first occur. After want of memory
+/// some of them may have been added.
 pub fn note_variables(c: &Clause, order: &mut Vec<u32>) -> Mem<()>
     ensures { OnOk result (order.new.items ≡ noted order.old.items (of.variables c.now)) }
 {
@@ -65,8 +65,9 @@ fn place(order: &[u32], n: u32) -> usize
 }
 
 /// The new number of a variable. There are no more variables than such numbers, so it is never refused.
-fn number_of(order: &[u32], n: u32) -> Mem<u32>
-    ensures { IfOk result (λ r. r ≡ position_or_len (nat_eq n) order.now) }
+fn new_number(order: &[u32], n: u32) -> Mem<u32>
+    ensures value { IfOk result (λ r. r ≡ position_or_len (nat_eq n) order.now) }
+    ensures refused { OnErr result (4294967295 < position_or_len (nat_eq n) order.now) }
 {
     let at = place(order, n);
     if at > u32::MAX as usize {
@@ -81,7 +82,7 @@ pub fn renumber_term(alloc: Global, t: &Term, order: &[u32]) -> Mem<Term>
     ensures { IfOk result (λ r. r ≡ term_under (joint.renumbering order.now) t.now) }
 {
     match t {
-        Term::Var(n) => Ok(Term::Var(number_of(order, *n)?)),
+        Term::Var(n) => Ok(Term::Var(new_number(order, *n)?)),
         Term::App(f, args) => {
             let args = renumber_terms(alloc, args.as_slice(), order)?;
             Ok(Term::App(*f, args))
@@ -90,20 +91,20 @@ pub fn renumber_term(alloc: Global, t: &Term, order: &[u32]) -> Mem<Term>
 }
 
 #[cycle(numbering)]
-fn renumber_terms(alloc: Global, terms: &[Term], order: &[u32]) -> Mem<Items<Term>>
+fn renumber_terms(alloc: Global, terms: &[Term], order: &[u32]) -> Mem<List<Term>>
     ensures { IfOk result (λ r. r ≡ map (term_under (joint.renumbering order.now)) terms.now) }
 {
-    let mut made = Items::new(alloc);
+    let mut made = List::new(alloc);
     for term in terms {
         made.push(renumber_term(alloc, term, order)?)?;
     }
     Ok(made)
 }
 
-fn renumber_literals(alloc: Global, literals: &[Literal], order: &[u32]) -> Mem<Items<Literal>>
+fn renumber_literals(alloc: Global, literals: &[Literal], order: &[u32]) -> Mem<List<Literal>>
     ensures { IfOk result (λ r. r ≡ map (literal_under (joint.renumbering order.now)) literals.now) }
 {
-    let mut made = Items::new(alloc);
+    let mut made = List::new(alloc);
     for literal in literals {
         made.push(Literal {
             positive: literal.positive,

@@ -1,15 +1,14 @@
 //! Clauses with their variables moved up.
 
 ghost use Rattle.std.specs.Prelude.{◌≡◌, ◌+◌, ◌<◌, ◌≤◌, ◌^◌, map, IfOk};
-ghost use Rattle.sc_data.specs.Term.{largest, term_under, term_width};
-ghost use Rattle.sc_data.specs.Clause.{literal_width, width};
-ghost use Rattle.sc_data.specs.Substitution.{literal_under};
-ghost use Rattle.sc_data.specs.JointInstance as joint;
+ghost use Rattle.sc_term.specs.Term.{largest, term_under, term_width};
+ghost use Rattle.sc_term.specs.Clause.{literal_width, width};
+ghost use Rattle.sc_term.specs.Substitution.{literal_under};
+ghost use Rattle.sc_term.specs.JointInstance as joint;
 ghost use Rattle.sc_term.specs.Occurrence.{shift_by};
 
 use crate::memory::Mem;
-use sc_data::{Clause, Literal, Term};
-use sqlite_items::Items;
+use crate::{Clause, List, Literal, Term};
 use std::alloc::Global;
 
 #[cycle(shifting)]
@@ -27,22 +26,22 @@ fn shift_term(alloc: Global, t: &Term, by: u32) -> Mem<Term>
 }
 
 #[cycle(shifting)]
-fn shift_terms(alloc: Global, terms: &[Term], by: u32) -> Mem<Items<Term>>
+fn shift_terms(alloc: Global, terms: &[Term], by: u32) -> Mem<List<Term>>
     requires { largest (map term_width terms.now) + by < 2 ^ 32 }
     ensures { IfOk result (λ r. r ≡ map (term_under (shift_by by)) terms.now) }
 {
-    let mut made = Items::new(alloc);
+    let mut made = List::new(alloc);
     for term in terms {
         made.push(shift_term(alloc, term, by)?)?;
     }
     Ok(made)
 }
 
-fn shift_literals(alloc: Global, literals: &[Literal], by: u32) -> Mem<Items<Literal>>
+fn shift_literals(alloc: Global, literals: &[Literal], by: u32) -> Mem<List<Literal>>
     requires { largest (map literal_width literals.now) + by < 2 ^ 32 }
     ensures { IfOk result (λ r. r ≡ map (literal_under (shift_by by)) literals.now) }
 {
-    let mut made = Items::new(alloc);
+    let mut made = List::new(alloc);
     for literal in literals {
         made.push(Literal {
             positive: literal.positive,

@@ -6,18 +6,18 @@ use Rattle.std.specs.Str.Parse.{digits_value}
 use Rattle.std.proofs.lemmas.Bool.{leb-false}
 use Rattle.std.proofs.lemmas.List.{map-append, take-map, drop-map}
 use Rattle.std.proofs.Math.Nat.{min-eq_left}
-use Rattle.sc_data.specs.declared.Term.{Term, Var}
-use Rattle.sc_data.specs.declared.Term.TheVariants.{App}
-use Rattle.sc_data.specs.declared.SymId.{SymId}
-use Rattle.sc_data.proofs.SubstitutionLaws.{all_split}
-use Rattle.sc_data.proofs.TermLaws.{fold-Var, fold-App}
+use Rattle.sc_term.specs.declared.Term.{Term, Var}
+use Rattle.sc_term.specs.declared.Term.TheVariants.{App}
+use Rattle.sc_term.specs.declared.SymId.{SymId}
+use Rattle.sc_term.proofs.SubstitutionLaws.{all_split}
+use Rattle.sc_term.proofs.TermLaws.{fold-Var, fold-App}
 use Rattle.sc_term.specs.declared.symbol.Symbol.{Symbol}
-use Rattle.sc_reading.specs.declared.written.Occurrence.{Occurrence}
-use Rattle.sc_reading.specs.Syntax.{Side, WrittenClause}
-use Rattle.sc_reading.specs.Numbering.{function_at, symbol_number, terms_of, literal_of}
-use Rattle.sc_reading.proofs.Booleans.{neither}
-use Rattle.sc_written.specs.TextWords.{digits_behind_x, is_numbered_variable, is_longer_or_above, text_variable}
-use Rattle.sc_section.specs.Clipped.{clipped, clipped_at, clipped_term, clipped_literal}
+use Rattle.sc_input_rules.specs.declared.written.Occurrence.{Occurrence}
+use Rattle.sc_input_rules.specs.Syntax.{Side, WrittenClause}
+use Rattle.sc_input_rules.specs.Numbering.{function_at, symbol_number, terms_of, literal_of}
+use Rattle.sc_input_rules.proofs.Booleans.{neither}
+use Rattle.sc_text_rules.specs.TextWords.{digits_behind_x, is_numbered_variable, is_longer_or_above, text_variable}
+use Rattle.sc_text_section.specs.Clipped.{clipped, clipped_at, clipped_term, clipped_literal}
 use Rattle.sc_text.proofs.SmallWords.{SmallVariable}
 use Rattle.sc_text.proofs.SmallClauses.{HasSmallTerms}
 

@@ -4,19 +4,19 @@ use Rattle.std.specs.Prelude.{ℕ, ◌==◌, ◌&&◌, if◌then◌else◌, code
 use Rattle.std.specs.List.{AllByRecursion}
 use Rattle.std.specs.Cmp.Lexicographic.{bytes_decides}
 use Rattle.std.proofs.lemmas.List.{reverse-append}
-use Rattle.sc_data.proofs.SubstitutionLaws.{all_join, all_split}
+use Rattle.sc_term.proofs.SubstitutionLaws.{all_join, all_split}
 use Rattle.sc_term.specs.declared.symbol.Symbol.{Symbol}
-use Rattle.sc_reading.specs.declared.token.Token.{Token}
-use Rattle.sc_reading.specs.declared.token.Token.TheVariants.{Word, Punctuation}
-use Rattle.sc_reading.specs.declared.token.Sign.TheVariants.{Open, Comma, Stop, Colon}
-use Rattle.sc_reading.specs.Token.{is_sign, same_text}
-use Rattle.sc_reading.specs.ClauseLimits.{when}
-use Rattle.sc_reading.specs.declared.written.Occurrence.{Occurrence}
-use Rattle.sc_reading.proofs.ClauseWithin.{not_when}
-use Rattle.sc_reading.proofs.Standing.{HasNoStop}
-use Rattle.sc_written.specs.TextWords.{is_large_variable}
-use Rattle.sc_written.specs.TextPosition.{behind_first, around, last_term, is_table_row, is_instance, Formula, formula, ended_name, name_before, in_term_place}
-use Rattle.sc_written.specs.TextLimits.{variable_told}
+use Rattle.sc_input_rules.specs.declared.token.Token.{Token}
+use Rattle.sc_input_rules.specs.declared.token.Token.TheVariants.{Word, Punctuation}
+use Rattle.sc_input_rules.specs.declared.token.Sign.TheVariants.{Open, Comma, Stop, Colon}
+use Rattle.sc_input_rules.specs.Token.{is_sign, same_text}
+use Rattle.sc_input_rules.specs.ClauseLimits.{when}
+use Rattle.sc_input_rules.specs.declared.written.Occurrence.{Occurrence}
+use Rattle.sc_input_rules.proofs.ClauseWithin.{not_when}
+use Rattle.sc_input_rules.proofs.Standing.{HasNoStop}
+use Rattle.sc_text_rules.specs.TextWords.{is_large_variable}
+use Rattle.sc_text_rules.specs.TextPosition.{behind_first, around, last_term, is_table_row, is_instance, Formula, formula, ended_name, name_before, in_term_place}
+use Rattle.sc_text_rules.specs.TextLimits.{variable_told}
 use Rattle.sc_text.proofs.TextStanding.{InSentence, further, clear_at}
 use Rattle.sc_text.proofs.SmallWords.{SmallVariable, bare, next_or, SmallWords}
 use Rattle.sc_text.proofs.SmallClauses.{SmallTerms}

@@ -1,31 +1,31 @@
 -- The laws of this crate as its functions use them.
 use Rattle.std.proofs.Common.{◌≡◌, ◌∙◌, sym, ap, subst, refl, ℕ, zero, suc, min, Bool, true, false, ◌+◌, ◌-◌, ◌<◌, ◌≤◌, List, [], ◌∷◌, length, map, take, drop, Option, Some, None, Result, Ok, Err, arith}
-use Rattle.sc_data.specs.declared.Line.{Line}
+use Rattle.sc_term.specs.declared.Line.{Line}
 use Rattle.sc_term.specs.declared.symbol.Symbol.{Symbol}
 use Rattle.std.specs.Prelude.{nat_le}
 use Rattle.std.proofs.lemmas.Bool.{leb-true, leb-false}
 use Rattle.std.proofs.Math.Nat.{min-eq_left}
 use Rattle.std.proofs.Math.Seq.{take-length}
-use Rattle.sc_reading.specs.declared.fault.InputKind.{InputKind}
-use Rattle.sc_reading.specs.declared.fault.Place.{Place}
-use Rattle.sc_reading.specs.declared.token.Token.{Token}
-use Rattle.sc_reading.specs.Reader.{Read, unexpected}
-use Rattle.sc_reading.specs.Tokens.{tokens_behind, tokens_from, blanked, with_dollars_refused}
-use Rattle.sc_reading.specs.Faults.{first_passed, before, judged}
-use Rattle.sc_reading.proofs.Taken.{same}
-use Rattle.sc_scan.specs.Told.{failure_of}
+use Rattle.sc_input_rules.specs.declared.fault.InputKind.{InputKind}
+use Rattle.sc_input_rules.specs.declared.fault.Place.{Place}
+use Rattle.sc_input_rules.specs.declared.token.Token.{Token}
+use Rattle.sc_input_rules.specs.Reader.{Read, unexpected}
+use Rattle.sc_input_rules.specs.Tokens.{tokens_behind, tokens_from, blanked, with_dollars_refused}
+use Rattle.sc_input_rules.specs.Faults.{first_passed, before, judged}
+use Rattle.sc_input_rules.proofs.Taken.{same}
+use Rattle.sc_input_scan.specs.Told.{failure_of}
 use Rattle.sc_input.specs.declared.refusal.InputError.{InputError}
 use Rattle.sc_input.specs.declared.refusal.InputError.TheVariants.{Refused, OutOfMemory}
 use Rattle.sc_input.specs.Refusal.{Refuses}
 use Rattle.sc_input.specs.Answer.{first_byte, fault_at, answer, Tells}
 use Rattle.sc_input.proofs.Judging.{unlimited, limited, FailsBehind, fails_behind}
 use Rattle.sc_input.proofs.Laws.{on_ok}
-use Rattle.sc_written.specs.TextLimits.{text_bounds, text_fault_at}
-use Rattle.sc_written.specs.ProofGrammar.{proof_section, alone}
-use Rattle.sc_written.specs.ProofReading.{judged_proof, proof_of}
-use Rattle.sc_section.specs.Clipped.{clipped_line}
-use Rattle.sc_section.proofs.SectionEnds.{section-end}
-use Rattle.sc_section.proofs.PrefixOfSections.{good_section}
+use Rattle.sc_text_rules.specs.TextLimits.{text_bounds, text_fault_at}
+use Rattle.sc_text_rules.specs.ProofGrammar.{proof_section, alone}
+use Rattle.sc_text_rules.specs.ProofReading.{judged_proof, proof_of}
+use Rattle.sc_text_section.specs.Clipped.{clipped_line}
+use Rattle.sc_text_section.proofs.SectionEnds.{section-end}
+use Rattle.sc_text_section.proofs.PrefixOfSections.{good_section}
 use Rattle.sc_text.specs.Answer.{section, clipped_section, told_lines, judged_tokens, judged_bytes}
 use Rattle.sc_text.proofs.LinesRead.{section_exact}
 

@@ -8,3 +8,8 @@ pub mod TermsRead
 pub mod Steps
 pub mod LinesRead
 pub mod Laws
+pub mod Standing
+pub mod ExactLines
+pub mod ExactRows
+pub mod ExactRuns
+pub mod RunLaws

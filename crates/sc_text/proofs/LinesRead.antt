@@ -3,29 +3,29 @@ use Rattle.std.proofs.Common.{◌≡◌, ◌∙◌, sym, ap, subst, refl, Bool, 
 use Rattle.std.specs.Prelude.{ℕ, zero, suc, ◌+◌, ◌==◌, codes}
 use Rattle.std.specs.List.{AllByRecursion}
 use Rattle.std.specs.Cmp.Lexicographic.{bytes_decides}
-use Rattle.sc_data.specs.declared.Clause.{Clause}
-use Rattle.sc_data.specs.declared.Line.{Line}
-use Rattle.sc_data.specs.declared.Step.{Step}
-use Rattle.sc_data.specs.declared.Step.TheVariants.{Merge, Flip}
+use Rattle.sc_term.specs.declared.Clause.{Clause}
+use Rattle.sc_term.specs.declared.Line.{Line}
+use Rattle.sc_term.specs.declared.Step.{Step}
+use Rattle.sc_term.specs.declared.Step.TheVariants.{Merge, Flip}
 use Rattle.sc_term.specs.declared.symbol.Symbol.{Symbol}
-use Rattle.sc_reading.specs.declared.token.Token.{Token}
-use Rattle.sc_reading.specs.declared.token.Token.TheVariants.{Word, Punctuation}
-use Rattle.sc_reading.specs.declared.token.Sign.TheVariants.{Stop, Colon}
-use Rattle.sc_reading.specs.Token.{same_text}
-use Rattle.sc_reading.specs.Reader.{◌>>=◌, unexpected, the_sign, the_word, a_word}
-use Rattle.sc_reading.specs.ClauseGrammar.{clause}
-use Rattle.sc_reading.specs.Faults.{first_passed}
-use Rattle.sc_reading.specs.Numbering.{literal_of}
-use Rattle.sc_reading.specs.ProblemGrammar.{next_is_word}
-use Rattle.sc_reading.proofs.ClauseSpelling.{clause_tokens}
-use Rattle.sc_reading.proofs.ClausesRead.{clause_read}
-use Rattle.sc_reading.proofs.NoStop.{clause_no_stop}
-use Rattle.sc_reading.proofs.Taken.{Gives, both, same, sign_taken, word_taken}
-use Rattle.sc_written.specs.TextWords.{the_number, text_variable}
-use Rattle.sc_written.specs.TextLimits.{text_bounds, text_fault_at}
-use Rattle.sc_written.specs.TextPosition.{is_table_row}
-use Rattle.sc_written.specs.ProofGrammar.{text_clause, input_step, instance_step, resolve_step, of_line_and_literal, para_step, step_named, a_step, a_line, lines_within, the_heading, proof_section, alone}
-use Rattle.sc_section.specs.Clipped.{clipped_clause, clipped_line}
+use Rattle.sc_input_rules.specs.declared.token.Token.{Token}
+use Rattle.sc_input_rules.specs.declared.token.Token.TheVariants.{Word, Punctuation}
+use Rattle.sc_input_rules.specs.declared.token.Sign.TheVariants.{Stop, Colon}
+use Rattle.sc_input_rules.specs.Token.{same_text}
+use Rattle.sc_input_rules.specs.Reader.{◌>>=◌, unexpected, the_sign, the_word, a_word}
+use Rattle.sc_input_rules.specs.ClauseGrammar.{clause}
+use Rattle.sc_input_rules.specs.Faults.{first_passed}
+use Rattle.sc_input_rules.specs.Numbering.{literal_of}
+use Rattle.sc_input_rules.specs.ProblemGrammar.{next_is_word}
+use Rattle.sc_input_rules.proofs.ClauseSpelling.{clause_tokens}
+use Rattle.sc_input_rules.proofs.ClausesRead.{clause_read}
+use Rattle.sc_input_rules.proofs.NoStop.{clause_no_stop}
+use Rattle.sc_input_rules.proofs.Taken.{Gives, both, same, sign_taken, word_taken}
+use Rattle.sc_text_rules.specs.TextWords.{the_number, text_variable}
+use Rattle.sc_text_rules.specs.TextLimits.{text_bounds, text_fault_at}
+use Rattle.sc_text_rules.specs.TextPosition.{is_table_row}
+use Rattle.sc_text_rules.specs.ProofGrammar.{text_clause, input_step, instance_step, resolve_step, of_line_and_literal, para_step, step_named, a_step, a_line, lines_within, the_heading, proof_section, alone}
+use Rattle.sc_text_section.specs.Clipped.{clipped_clause, clipped_line}
 use Rattle.sc_text.proofs.TextStanding.{AtStart, InSentence, at_first, sentence_begun, sentence_ended, further}
 use Rattle.sc_text.proofs.SmallClauses.{HasSmallTerms, clause_small}
 use Rattle.sc_text.proofs.InFormulas.{HasNoColon, clause_terms}

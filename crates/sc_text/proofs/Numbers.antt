@@ -5,21 +5,21 @@ use Rattle.std.specs.List.{list_all}
 use Rattle.std.specs.Str.Parse.{digits_value}
 use Rattle.std.specs.Cmp.Lexicographic.{bytes_decides}
 use Rattle.std.proofs.lemmas.Bool.{leb-false}
-use Rattle.sc_data.proofs.SubstitutionLaws.{all_join}
+use Rattle.sc_term.proofs.SubstitutionLaws.{all_join}
 use Rattle.sc_term.specs.declared.symbol.Symbol.{Symbol}
-use Rattle.sc_reading.specs.declared.token.Token.{Token}
-use Rattle.sc_reading.specs.declared.token.Token.TheVariants.{Word}
-use Rattle.sc_reading.specs.declared.token.Sign.TheVariants.{Stop, Colon}
-use Rattle.sc_reading.specs.Token.{is_sign, same_text}
-use Rattle.sc_reading.specs.Tokens.{is_digit}
-use Rattle.sc_reading.specs.Reader.{Name, unexpected, a_word}
-use Rattle.sc_reading.proofs.Booleans.{parts_hold, neither}
-use Rattle.sc_reading.proofs.Taken.{Gives, both, same, word_taken}
-use Rattle.sc_reading.proofs.ClauseWithin.{not_when}
-use Rattle.sc_written.specs.TextWords.{is_longer_or_above, a_number_such, a_number}
-use Rattle.sc_written.specs.TextPosition.{is_table_row, Formula, formula}
-use Rattle.sc_written.specs.TextLimits.{large_number, is_table_name, number_told}
-use Rattle.sc_reading.proofs.Standing.{HasNoStop}
+use Rattle.sc_input_rules.specs.declared.token.Token.{Token}
+use Rattle.sc_input_rules.specs.declared.token.Token.TheVariants.{Word}
+use Rattle.sc_input_rules.specs.declared.token.Sign.TheVariants.{Stop, Colon}
+use Rattle.sc_input_rules.specs.Token.{is_sign, same_text}
+use Rattle.sc_input_rules.specs.Tokens.{is_digit}
+use Rattle.sc_input_rules.specs.Reader.{Name, unexpected, a_word}
+use Rattle.sc_input_rules.proofs.Booleans.{parts_hold, neither}
+use Rattle.sc_input_rules.proofs.Taken.{Gives, both, same, word_taken}
+use Rattle.sc_input_rules.proofs.ClauseWithin.{not_when}
+use Rattle.sc_text_rules.specs.TextWords.{is_longer_or_above, a_number_such, a_number}
+use Rattle.sc_text_rules.specs.TextPosition.{is_table_row, Formula, formula}
+use Rattle.sc_text_rules.specs.TextLimits.{large_number, is_table_name, number_told}
+use Rattle.sc_input_rules.proofs.Standing.{HasNoStop}
 use Rattle.sc_text.proofs.TextStanding.{InSentence, further, clear_at}
 use Rattle.sc_text.proofs.InFormulas.{HasNoColon, no_formula}
 

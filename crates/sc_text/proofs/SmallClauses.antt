@@ -5,21 +5,21 @@ use Rattle.std.specs.List.{AllByRecursion, list_any, after_last, suffix_len, pre
 use Rattle.std.proofs.lemmas.List.{append-nil, reverse-append}
 use Rattle.std.proofs.lemmas.List.Folds.{list_any-append}
 use Rattle.std.proofs.Math.Seq.{drop-append_seam}
-use Rattle.sc_data.proofs.SubstitutionLaws.{all_join, all_split}
-use Rattle.sc_reading.specs.declared.token.Token.{Token}
-use Rattle.sc_reading.specs.declared.token.Token.TheVariants.{Word, Punctuation, Refused}
-use Rattle.sc_reading.specs.declared.token.Sign.TheVariants.{Open, Bar}
-use Rattle.sc_reading.specs.Token.{is_sign, same_text}
-use Rattle.sc_reading.specs.Reader.{next_is}
-use Rattle.sc_reading.specs.declared.written.WrittenLiteral.{WrittenLiteral}
-use Rattle.sc_reading.specs.ClauseGrammar.{is_equality}
-use Rattle.sc_reading.specs.Measures.{open_commas, last_literal, without_bracket, without_minus}
-use Rattle.sc_reading.proofs.OneMore.{open_commas-one_more}
-use Rattle.sc_reading.proofs.Spelling.{Head, Sides, Empty, Entry, in_brackets, tokens_of, side_tokens, occurrences, side_of, IsName, AreNames}
-use Rattle.sc_reading.proofs.ClauseSpelling.{Atom, Plain, Equation, Wrapping, Bare, Negative, Brackets, NegativeBrackets, LiteralTree, ClauseTree, Falsum, Literals, equal_sign, atom_tokens, opening_tokens, closing_tokens, literal_tokens, behind_bar, clause_tokens, atom_written, literal_written, clause_written, HasNames, IsSpelt, IsSpeltClause}
-use Rattle.sc_reading.proofs.NoStop.{literal_no_bar}
-use Rattle.sc_reading.proofs.ClauseParts.{wrapped-arguments}
-use Rattle.sc_written.specs.TextPosition.{is_nonempty, in_term_place}
+use Rattle.sc_term.proofs.SubstitutionLaws.{all_join, all_split}
+use Rattle.sc_input_rules.specs.declared.token.Token.{Token}
+use Rattle.sc_input_rules.specs.declared.token.Token.TheVariants.{Word, Punctuation, Refused}
+use Rattle.sc_input_rules.specs.declared.token.Sign.TheVariants.{Open, Bar}
+use Rattle.sc_input_rules.specs.Token.{is_sign, same_text}
+use Rattle.sc_input_rules.specs.Reader.{next_is}
+use Rattle.sc_input_rules.specs.declared.written.WrittenLiteral.{WrittenLiteral}
+use Rattle.sc_input_rules.specs.ClauseGrammar.{is_equality}
+use Rattle.sc_input_rules.specs.Measures.{open_commas, last_literal, without_bracket, without_minus}
+use Rattle.sc_input_rules.proofs.OneMore.{open_commas-one_more}
+use Rattle.sc_input_rules.proofs.Spelling.{Head, Sides, Empty, Entry, in_brackets, tokens_of, side_tokens, occurrences, side_of, IsName, AreNames}
+use Rattle.sc_input_rules.proofs.ClauseSpelling.{Atom, Plain, Equation, Wrapping, Bare, Negative, Brackets, NegativeBrackets, LiteralTree, ClauseTree, Falsum, Literals, equal_sign, atom_tokens, opening_tokens, closing_tokens, literal_tokens, behind_bar, clause_tokens, atom_written, literal_written, clause_written, HasNames, IsSpelt, IsSpeltClause}
+use Rattle.sc_input_rules.proofs.NoStop.{literal_no_bar}
+use Rattle.sc_input_rules.proofs.ClauseParts.{wrapped-arguments}
+use Rattle.sc_text_rules.specs.TextPosition.{is_nonempty, in_term_place}
 use Rattle.sc_text.proofs.SmallWords.{SmallVariable, bare, next_or, next_or-append, SmallWords, small_back, head_small, sides_small, brackets_small}
 
 -- ---- the last literal

@@ -3,17 +3,17 @@ use Rattle.std.proofs.Common.{◌≡◌, ◌∙◌, sym, ap, subst, refl, Bool, 
 use Rattle.std.specs.Prelude.{ℕ, ◌+◌, ◌==◌, ◌||◌, ◌&&◌, codes}
 use Rattle.std.specs.List.{AllByRecursion}
 use Rattle.std.proofs.lemmas.Bool.{eqb-true}
-use Rattle.sc_data.proofs.SubstitutionLaws.{all_join}
-use Rattle.sc_reading.specs.declared.token.Token.{Token}
-use Rattle.sc_reading.specs.declared.token.Token.TheVariants.{Word, Punctuation}
-use Rattle.sc_reading.specs.declared.token.Sign.TheVariants.{Open, Close, Comma}
-use Rattle.sc_reading.specs.Token.{is_sign, same_text}
-use Rattle.sc_reading.specs.declared.written.Occurrence.{Occurrence}
-use Rattle.sc_reading.specs.Measures.{open_commas, one_more}
-use Rattle.sc_reading.proofs.Spelling.{Head, Sides, Empty, Entry, in_brackets, behind_comma, tokens_of, count, occurrence, occurrences, IsName, AreNames}
-use Rattle.sc_reading.proofs.ArityLaw.{open_commas-append, side-commas}
-use Rattle.sc_written.specs.TextWords.{is_some_digits, digits_behind_x, is_longer_or_above, is_large_variable}
-use Rattle.sc_written.specs.TextPosition.{is_nonempty}
+use Rattle.sc_term.proofs.SubstitutionLaws.{all_join}
+use Rattle.sc_input_rules.specs.declared.token.Token.{Token}
+use Rattle.sc_input_rules.specs.declared.token.Token.TheVariants.{Word, Punctuation}
+use Rattle.sc_input_rules.specs.declared.token.Sign.TheVariants.{Open, Close, Comma}
+use Rattle.sc_input_rules.specs.Token.{is_sign, same_text}
+use Rattle.sc_input_rules.specs.declared.written.Occurrence.{Occurrence}
+use Rattle.sc_input_rules.specs.Measures.{open_commas, one_more}
+use Rattle.sc_input_rules.proofs.Spelling.{Head, Sides, Empty, Entry, in_brackets, behind_comma, tokens_of, count, occurrence, occurrences, IsName, AreNames}
+use Rattle.sc_input_rules.proofs.ArityLaw.{open_commas-append, side-commas}
+use Rattle.sc_text_rules.specs.TextWords.{is_some_digits, digits_behind_x, is_longer_or_above, is_large_variable}
+use Rattle.sc_text_rules.specs.TextPosition.{is_nonempty}
 
 abbrev pub SmallVariable : Occurrence → Type 0
 SmallVariable o = is_large_variable o ≡ false

@@ -2,30 +2,30 @@
 use Rattle.std.proofs.Common.{◌≡◌, ◌∙◌, sym, ap, subst, refl, ◌≤◌, Bool, true, false, List, [], ◌∷◌, ◌++◌, map, length, Ok}
 use Rattle.std.specs.Prelude.{ℕ, zero, suc, codes, flat_map}
 use Rattle.std.specs.List.{AllByRecursion}
-use Rattle.sc_data.specs.declared.Term.{Term}
-use Rattle.sc_data.specs.declared.Step.{Step}
-use Rattle.sc_data.specs.declared.Step.TheVariants.{Input, Instance, Resolve, Para}
-use Rattle.sc_data.specs.declared.Side.{Side}
-use Rattle.sc_data.specs.declared.Side.TheVariants.{Left, Right}
+use Rattle.sc_term.specs.declared.Term.{Term}
+use Rattle.sc_term.specs.declared.Step.{Step}
+use Rattle.sc_term.specs.declared.Step.TheVariants.{Input, Instance, Resolve, Para}
+use Rattle.sc_term.specs.declared.Side.{Side}
+use Rattle.sc_term.specs.declared.Side.TheVariants.{Left, Right}
 use Rattle.sc_term.specs.declared.symbol.Symbol.{Symbol}
-use Rattle.sc_reading.specs.declared.token.Token.{Token}
-use Rattle.sc_reading.specs.declared.token.Token.TheVariants.{Word, Punctuation}
-use Rattle.sc_reading.specs.declared.token.Sign.TheVariants.{Open, Close, Comma, Stop, Colon}
-use Rattle.sc_reading.specs.Token.{is_sign, same_text}
-use Rattle.sc_reading.specs.Reader.{Name, ◌>>=◌, unexpected, next_is, the_sign, the_word, a_word, separated}
-use Rattle.sc_reading.specs.ClauseGrammar.{bracketed, side}
-use Rattle.sc_reading.specs.Numbering.{terms_of}
-use Rattle.sc_reading.specs.ProblemGrammar.{next_is_word}
-use Rattle.sc_reading.specs.Syntax as syntax
-use Rattle.sc_reading.proofs.Spelling.{Entry, tokens_of}
-use Rattle.sc_reading.proofs.Taken.{Gives, both, same, sign_taken, word_taken}
-use Rattle.sc_reading.proofs.SidesRead.{SidesRead, brackets_read}
-use Rattle.sc_reading.proofs.NoStop.{OfLiterals, sides_all}
-use Rattle.sc_reading.proofs.ClauseSpelling.{equal_sign}
-use Rattle.sc_written.specs.TextWords.{a_number, text_variable}
-use Rattle.sc_written.specs.TextPosition.{is_table_row}
-use Rattle.sc_written.specs.ProofGrammar.{text_terms, a_side, input_step, instance_step, resolve_step, of_line_and_literal, para_step}
-use Rattle.sc_section.specs.Clipped.{clipped, clipped_term, clipped_step}
+use Rattle.sc_input_rules.specs.declared.token.Token.{Token}
+use Rattle.sc_input_rules.specs.declared.token.Token.TheVariants.{Word, Punctuation}
+use Rattle.sc_input_rules.specs.declared.token.Sign.TheVariants.{Open, Close, Comma, Stop, Colon}
+use Rattle.sc_input_rules.specs.Token.{is_sign, same_text}
+use Rattle.sc_input_rules.specs.Reader.{Name, ◌>>=◌, unexpected, next_is, the_sign, the_word, a_word, separated}
+use Rattle.sc_input_rules.specs.ClauseGrammar.{bracketed, side}
+use Rattle.sc_input_rules.specs.Numbering.{terms_of}
+use Rattle.sc_input_rules.specs.ProblemGrammar.{next_is_word}
+use Rattle.sc_input_rules.specs.Syntax as syntax
+use Rattle.sc_input_rules.proofs.Spelling.{Entry, tokens_of}
+use Rattle.sc_input_rules.proofs.Taken.{Gives, both, same, sign_taken, word_taken}
+use Rattle.sc_input_rules.proofs.SidesRead.{SidesRead, brackets_read}
+use Rattle.sc_input_rules.proofs.NoStop.{OfLiterals, sides_all}
+use Rattle.sc_input_rules.proofs.ClauseSpelling.{equal_sign}
+use Rattle.sc_text_rules.specs.TextWords.{a_number, text_variable}
+use Rattle.sc_text_rules.specs.TextPosition.{is_table_row}
+use Rattle.sc_text_rules.specs.ProofGrammar.{text_terms, a_side, input_step, instance_step, resolve_step, of_line_and_literal, para_step}
+use Rattle.sc_text_section.specs.Clipped.{clipped, clipped_term, clipped_step}
 use Rattle.sc_text.proofs.TermsRead.{sides_read}
 use Rattle.sc_text.proofs.SmallWords.{SmallVariable, sides_small}
 use Rattle.sc_text.proofs.InFormulas.{instance_terms, instance_outside}

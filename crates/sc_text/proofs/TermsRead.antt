@@ -1,16 +1,16 @@
 -- Where the terms of an instance are read, they are the occurrences of a tree, and the tokens are those that spell it.
 use Rattle.std.proofs.Common.{◌∙◌, sym, ap, subst, refl, ℕ, zero, suc, Bool, true, false, List, [], ◌∷◌, ◌++◌, append_assoc, Ok, arith}
 use Rattle.std.proofs.lemmas.List.{append-nil}
-use Rattle.sc_reading.specs.declared.token.Token.{Token}
-use Rattle.sc_reading.specs.declared.token.Token.TheVariants.{Word, Punctuation}
-use Rattle.sc_reading.specs.declared.token.Sign.TheVariants.{Comma}
-use Rattle.sc_reading.specs.Token.{is_sign}
-use Rattle.sc_reading.specs.Reader.{◌>>=◌, next_is, the_sign, separated}
-use Rattle.sc_reading.specs.Syntax.{Side}
-use Rattle.sc_reading.specs.ClauseGrammar.{side}
-use Rattle.sc_reading.proofs.Spelling.{Empty, Entry, in_brackets, tokens_of, side_tokens, occurrence, occurrences}
-use Rattle.sc_reading.proofs.Taken.{Gives, both, same, Sign-taken, sign_taken}
-use Rattle.sc_reading.proofs.SidesRead.{SideRead, SidesRead, side_read}
+use Rattle.sc_input_rules.specs.declared.token.Token.{Token}
+use Rattle.sc_input_rules.specs.declared.token.Token.TheVariants.{Word, Punctuation}
+use Rattle.sc_input_rules.specs.declared.token.Sign.TheVariants.{Comma}
+use Rattle.sc_input_rules.specs.Token.{is_sign}
+use Rattle.sc_input_rules.specs.Reader.{◌>>=◌, next_is, the_sign, separated}
+use Rattle.sc_input_rules.specs.Syntax.{Side}
+use Rattle.sc_input_rules.specs.ClauseGrammar.{side}
+use Rattle.sc_input_rules.proofs.Spelling.{Empty, Entry, in_brackets, tokens_of, side_tokens, occurrence, occurrences}
+use Rattle.sc_input_rules.proofs.Taken.{Gives, both, same, Sign-taken, sign_taken}
+use Rattle.sc_input_rules.proofs.SidesRead.{SideRead, SidesRead, side_read}
 
 last_side : (ts : List Token) (s : Side) (left : List Token) → SideRead ts s left → SidesRead ts (s ∷ []) left
 last_side ts s left r =

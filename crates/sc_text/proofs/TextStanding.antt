@@ -2,19 +2,19 @@
 use Rattle.std.proofs.Common.{◌≡◌, ◌∙◌, sym, ap, refl, Bool, true, false, List, [], ◌∷◌, ◌++◌, append_assoc, Option, Some, None}
 use Rattle.std.specs.Prelude.{ℕ, if◌then◌else◌, cond, drop}
 use Rattle.std.proofs.lemmas.List.{append-nil}
-use Rattle.sc_data.proofs.SubstitutionLaws.{all_join}
+use Rattle.sc_term.proofs.SubstitutionLaws.{all_join}
 use Rattle.sc_term.specs.declared.symbol.Symbol.{Symbol}
-use Rattle.sc_reading.specs.declared.fault.InputKind.{InputKind}
-use Rattle.sc_reading.specs.declared.fault.InputKind.TheVariants.{UnknownName, OutOfRange}
-use Rattle.sc_reading.specs.declared.fault.Place.{Place}
-use Rattle.sc_reading.specs.declared.token.Token.{Token}
-use Rattle.sc_reading.specs.declared.token.Sign.TheVariants.{Stop}
-use Rattle.sc_reading.specs.Token.{is_sign}
-use Rattle.sc_reading.specs.Faults.{place, passed, passed_behind}
-use Rattle.sc_reading.proofs.Standing.{HasNoStop}
-use Rattle.sc_reading.proofs.Unpassed.{unpassed_split, unpassed_at}
-use Rattle.sc_written.specs.TextPosition.{TextPosition, position_behind, text_position}
-use Rattle.sc_written.specs.TextLimits.{name_told, variable_told, number_told, text_bounds, text_limits, text_fault_at}
+use Rattle.sc_input_rules.specs.declared.fault.InputKind.{InputKind}
+use Rattle.sc_input_rules.specs.declared.fault.InputKind.TheVariants.{UnknownName, OutOfRange}
+use Rattle.sc_input_rules.specs.declared.fault.Place.{Place}
+use Rattle.sc_input_rules.specs.declared.token.Token.{Token}
+use Rattle.sc_input_rules.specs.declared.token.Sign.TheVariants.{Stop}
+use Rattle.sc_input_rules.specs.Token.{is_sign}
+use Rattle.sc_input_rules.specs.Faults.{place, passed, passed_behind}
+use Rattle.sc_input_rules.proofs.Standing.{HasNoStop}
+use Rattle.sc_input_rules.proofs.Unpassed.{unpassed_split, unpassed_at}
+use Rattle.sc_text_rules.specs.TextPosition.{TextPosition, position_behind, text_position}
+use Rattle.sc_text_rules.specs.TextLimits.{name_told, variable_told, number_told, text_bounds, text_limits, text_fault_at}
 
 -- ---- the sentence so far
 

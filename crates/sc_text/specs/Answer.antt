@@ -1,16 +1,16 @@
 -- What reading some first tokens of a proof section says of all of it.
 use Rattle.std.specs.Prelude.{ℕ, List, length, map, Result}
-use Rattle.sc_data.specs.declared.Line.{Line}
+use Rattle.sc_term.specs.declared.Line.{Line}
 use Rattle.sc_term.specs.declared.symbol.Symbol.{Symbol}
-use Rattle.sc_reading.specs.declared.fault.Place.{Place}
-use Rattle.sc_reading.specs.declared.token.Token.{Token}
-use Rattle.sc_reading.specs.Reader.{Read}
-use Rattle.sc_reading.specs.Tokens.{tokens_behind}
+use Rattle.sc_input_rules.specs.declared.fault.Place.{Place}
+use Rattle.sc_input_rules.specs.declared.token.Token.{Token}
+use Rattle.sc_input_rules.specs.Reader.{Read}
+use Rattle.sc_input_rules.specs.Tokens.{tokens_behind}
 use Rattle.sc_input.specs.Answer.{told_by}
-use Rattle.sc_written.specs.ProofGrammar.{proof_section, alone}
-use Rattle.sc_written.specs.TextLimits.{text_bounds}
-use Rattle.sc_written.specs.ProofReading.{judged_proof}
-use Rattle.sc_section.specs.Clipped.{clipped_line, clipped_lines}
+use Rattle.sc_text_rules.specs.ProofGrammar.{proof_section, alone}
+use Rattle.sc_text_rules.specs.TextLimits.{text_bounds}
+use Rattle.sc_text_rules.specs.ProofReading.{judged_proof}
+use Rattle.sc_text_section.specs.Clipped.{clipped_line, clipped_lines}
 
 -- a section behind which nothing stands, its numbers clipped
 abbrev pub section : List Symbol → List Token → Read (List Line)

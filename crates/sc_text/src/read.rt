@@ -1,32 +1,30 @@
 //! The reader of proof sections.
 
 ghost use Rattle.std.specs.Prelude.{◌≡◌, Ok, IfOk, IfErr};
-ghost use Rattle.sc_reading.specs.Tokens as spec;
-ghost use Rattle.sc_scan.specs.Told.{Fails};
+ghost use Rattle.sc_input_rules.specs.Tokens as spec;
+ghost use Rattle.sc_input_scan.specs.Told.{Fails};
 ghost use Rattle.sc_input.specs.Refusal.{Refuses};
 ghost use Rattle.sc_input.specs.Answer.{read_at, answer, Tells};
-ghost use Rattle.sc_written.specs.ProofReading.{proof_of};
+ghost use Rattle.sc_text_rules.specs.ProofReading.{proof_of};
 ghost use Rattle.sc_text.specs.Answer.{clipped_section, judged_tokens};
 
-use sc_data::Line;
 use sc_input::{InputError, fault_at, first_byte, last_tokens};
-use sc_reading::{Place, Token};
-use sc_scan::{Stop, scan};
-use sc_section::read_section;
-use sc_section_limits::first_limit;
-use sc_term::{Mem, Signature};
-use sqlite_items::Items;
+use sc_input_rules::{Place, Token};
+use sc_input_scan::{Stop, scan};
+use sc_term::{Line, List, Mem, Signature};
+use sc_text_limits::first_limit;
+use sc_text_section::read_section;
 use std::alloc::Global;
 
 /// The tokens of the bytes from one on, none where no byte is left.
 #[tactic(auto, using(crate::proofs::Laws::same_tokens))]
-fn tokens_behind<'a>(alloc: Global, bytes: &'a [u8], from: u64) -> Mem<Items<Token<'a>>>
+pub fn tokens_behind<'a>(alloc: Global, bytes: &'a [u8], from: u64) -> Mem<List<Token<'a>>>
     ensures { IfOk result (λ ts. ts ≡ spec.tokens_behind from bytes.now) }
 {
     scan(alloc, bytes, (from as usize).min(bytes.len()))
 }
 
-fn lines_at(lines: Items<Line>, at: Result<u64, Place>) -> Result<(Items<Line>, u64), InputError>
+fn lines_at(lines: List<Line>, at: Result<u64, Place>) -> Result<(List<Line>, u64), InputError>
     ensures { Tells (λ x. (x.0, x.1)) result (read_at lines at) }
 {
     match at {
@@ -41,7 +39,7 @@ fn lines_up_to(
     sig: &Signature,
     behind: Result<u64, Place>,
     tokens: &[Token],
-) -> Result<(Items<Line>, Result<u64, Place>), Stop>
+) -> Result<(List<Line>, Result<u64, Place>), Stop>
     ensures ok { IfOk result (λ x. answer behind (clipped_section sig.now tokens.now) ≡ read_at x.0 x.1) }
     ensures err { IfErr result (λ e. Fails e (clipped_section sig.now tokens.now)) }
 {
@@ -57,7 +55,7 @@ fn read_up_to(
     sig: &Signature,
     behind: Result<u64, Place>,
     tokens: &[Token],
-) -> Result<(Items<Line>, u64), InputError>
+) -> Result<(List<Line>, u64), InputError>
     ensures { Tells (λ x. (x.0, x.1)) result (answer behind (clipped_section sig.now tokens.now)) }
 {
     match lines_up_to(alloc, sig, behind, tokens) {
@@ -77,7 +75,7 @@ fn read_tokens(
     sig: &Signature,
     end: u64,
     tokens: &[Token],
-) -> Result<(Items<Line>, u64), InputError>
+) -> Result<(List<Line>, u64), InputError>
     ensures { Tells (λ x. (x.0, x.1)) result (judged_tokens sig.now end tokens.now) }
 {
     match first_limit(alloc, sig, tokens)? {
@@ -100,7 +98,7 @@ pub fn read_proof(
     sig: &Signature,
     bytes: &[u8],
     from: u64,
-) -> Result<Items<Line>, InputError>
+) -> Result<List<Line>, InputError>
     ensures ok { IfOk result (λ lines. proof_of sig.now bytes.now from ≡ Ok lines) }
     ensures refused { IfErr result (λ e. Refuses e (proof_of sig.now bytes.now from)) }
 {

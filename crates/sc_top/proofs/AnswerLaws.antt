@@ -1,15 +1,15 @@
 -- What the bytes decide, where they are to be checked.
 use Rattle.std.proofs.Common.{◌≡◌, ◌∙◌, sym, ap, subst, ℕ, ◌+◌, ◌-◌, ◌<◌, ◌≤◌, Bool, true, false, IsTrue, List, length, Result, Ok, Err, inl, inr, arith}
 use Rattle.std.proofs.lemmas.Bool.{cases_order, lt-ltb, le-ltb}
-use Rattle.sc_data.specs.declared.Clause.{Clause}
-use Rattle.sc_data.specs.declared.Line.{Line}
-use Rattle.sc_data.specs.Refuted.{IsRefuted}
-use Rattle.sc_data.specs.Proof.{IsStepAt, IsProof, IsFirstFault}
-use Rattle.sc_reading.specs.declared.fault.Place.{Place}
-use Rattle.sc_reading.specs.declared.fault.InputKind.TheVariants.{TooLong}
-use Rattle.sc_reading.specs.Faults.{place}
-use Rattle.sc_reading.specs.Reading.{StatedItems, items_of}
-use Rattle.sc_written.specs.ProofReading.{proof_of}
+use Rattle.sc_term.specs.declared.Clause.{Clause}
+use Rattle.sc_term.specs.declared.Line.{Line}
+use Rattle.sc_term.specs.Refuted.{IsRefuted}
+use Rattle.sc_term.specs.Proof.{IsStepAt, IsProof, IsFirstFault}
+use Rattle.sc_input_rules.specs.declared.fault.Place.{Place}
+use Rattle.sc_input_rules.specs.declared.fault.InputKind.TheVariants.{TooLong}
+use Rattle.sc_input_rules.specs.Faults.{place}
+use Rattle.sc_input_rules.specs.Reading.{StatedItems, items_of}
+use Rattle.sc_text_rules.specs.ProofReading.{proof_of}
 use Rattle.sc_steps.proofs.ModelLaws.{not_all_true}
 use Rattle.sc_top.specs.NoModel.{HasNoModel}
 use Rattle.sc_top.specs.declared.answer.Answer.{Answer}

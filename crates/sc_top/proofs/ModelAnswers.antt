@@ -1,35 +1,36 @@
 -- What becomes of a search for a model of a problem's clauses.
 use Rattle.std.proofs.Common.{◌≡◌, ◌∙◌, ap, subst, refl, ℕ, List}
 use Rattle.std.specs.Prelude.{Option, None}
-use Rattle.sc_reading.specs.Problem.{Stated}
-use Rattle.sc_reading.specs.WellFormed.{IsProblem}
-use Rattle.sc_interp.specs.Structure.{Structure}
-use Rattle.sc_run_written.specs.ModelText.{model_text}
-use Rattle.sc_run_written.specs.RunValue.{entries_of}
-use Rattle.sc_find.specs.Models.{Task, IsPiece, IsFirstModel, HasNoModel, ExceedsBudget}
+use Rattle.sc_input_rules.specs.Problem.{Stated}
+use Rattle.sc_input_rules.specs.WellFormed.{IsProblem}
+use Rattle.sc_interp.specs.Structure.{Structure, IsStructure}
+use Rattle.sc_text_run_rules.specs.ModelText.{model_text}
+use Rattle.sc_text_run_rules.specs.RunValue.{entries_of}
+use Rattle.sc_find.specs.Models.{Task, IsPiece, IsFirstModel, FindsNoModel, ExceedsBudget}
 use Rattle.sc_find.specs.Answers.{NoneBefore, AreFound}
 use Rattle.sc_find.specs.declared.answer.FoundAll.{FoundAll}
 use Rattle.sc_find.specs.declared.answer.FoundAll.TheVariants as all
-use Rattle.sc_model_laws.specs.Meaning.{task_of}
-use Rattle.sc_model_laws.proofs.ModelLaws.{found_models_of_problems_true, problems_without}
+use Rattle.sc_find_laws.specs.Meaning.{task_of}
+use Rattle.sc_find_laws.proofs.ModelLaws.{found_models_of_problems_true, problems_without}
 use Rattle.sc_top.specs.Models.{HasModelText, HasNoModelOfSize}
 
-pub has_text : (problem : Stated) (size : ℕ) (t : Structure) (text : List ℕ) → IsProblem problem → IsFirstModel (task_of problem size) None t
+pub has_text : (problem : Stated) (size : ℕ) (t : Structure) (text : List ℕ) → IsProblem problem → IsStructure t → IsFirstModel (task_of problem size) None t
     → text ≡ model_text problem.symbols t.size (entries_of t) → HasModelText problem size text
-has_text problem size t text is first printed = record {
+has_text problem size t text is structure first printed = record {
   tables = t;
+  structure = structure;
   first = first;
   are_true = found_models_of_problems_true problem size t is first;
   printed = printed ∙ ap (λ (n : ℕ). model_text problem.symbols n (entries_of t)) first.tables.size;
 }
 
-pub has_none : (problem : Stated) (size : ℕ) → IsProblem problem → HasNoModel (task_of problem size) None → HasNoModelOfSize problem size size
+pub has_none : (problem : Stated) (size : ℕ) → IsProblem problem → FindsNoModel (task_of problem size) None → HasNoModelOfSize problem size size
 has_none problem size is none = record { is_told = refl; no_model = none; none = problems_without problem size is none }
 
 -- what the search over the pieces of the task tells of the problem
 pub none_found : (problem : Stated) (size nodes : ℕ) (task : Task) (found : FoundAll) → IsProblem problem → task ≡ task_of problem size → AreFound task nodes found
     → found ≡ all.None → HasNoModelOfSize problem size size
-none_found problem size nodes task found is of h told = has_none problem size is (subst (λ (t : Task). HasNoModel t None) of (subst (AreFound task nodes) told h))
+none_found problem size nodes task found is of h told = has_none problem size is (subst (λ (t : Task). FindsNoModel t None) of (subst (AreFound task nodes) told h))
 
 pub spent_found : (problem : Stated) (size nodes p : ℕ) (task : Task) (found : FoundAll) → task ≡ task_of problem size → AreFound task nodes found → found ≡ all.Spent p
     → NoneBefore (task_of problem size) p × ((piece : Option ℕ) × IsPiece (task_of problem size) p piece × ExceedsBudget (task_of problem size) piece nodes)

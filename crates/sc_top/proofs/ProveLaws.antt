@@ -2,17 +2,16 @@
 use Rattle.std.proofs.Common.{◌≡◌, ◌∙◌, sym, ap, subst, refl, ℕ, ◌<◌, ◌≤◌, ◌⊎◌, inl, inr, Bool, true, false, List, length, Result, Ok, Err}
 use Rattle.std.specs.Prelude.{nat_lt}
 use Rattle.std.proofs.lemmas.Bool.{lt-ltb, le-ltb}
-use Rattle.sc_reading.specs.declared.fault.Place.{Place}
-use Rattle.sc_reading.specs.declared.fault.InputKind.TheVariants.{TooLong}
-use Rattle.sc_reading.specs.Faults.{place}
-use Rattle.sc_reading.specs.Problem.{Stated}
-use Rattle.sc_reading.specs.Reading.{problem_of}
-use Rattle.sc_rules.specs.declared.row.Outcome.{Outcome}
-use Rattle.sc_rules.specs.declared.row.Outcome.TheVariants.{Proof}
-use Rattle.sc_rules.specs.Run.{looks_of}
-use Rattle.sc_run_written.specs.RunValue.{RunValue}
-use Rattle.sc_run_written.specs.RunText.{run_text}
-use Rattle.sc_reading.proofs.ReadProblems.{read_problem}
+use Rattle.sc_input_rules.specs.declared.fault.Place.{Place}
+use Rattle.sc_input_rules.specs.declared.fault.InputKind.TheVariants.{TooLong}
+use Rattle.sc_input_rules.specs.Faults.{place}
+use Rattle.sc_input_rules.specs.Problem.{Stated}
+use Rattle.sc_input_rules.specs.Reading.{problem_of}
+use Rattle.sc_core_rules.specs.declared.row.Outcome.{Outcome}
+use Rattle.sc_core_rules.specs.declared.row.Outcome.TheVariants.{Proof}
+use Rattle.sc_text_run_rules.specs.RunValue.{RunValue}
+use Rattle.sc_text_run_rules.specs.RunText.{run_text}
+use Rattle.sc_input_rules.proofs.ReadProblems.{read_problem}
 use Rattle.sc_world.proofs.OneRecord.{one_record}
 use Rattle.sc_world.specs.Recorded.{IsRecord, TellsEnd, no_version}
 use Rattle.sc_top.specs.NoModel.{HasNoModel}
@@ -33,7 +32,7 @@ too_many_spell bytes h = ap (λ (b : Bool). elim b [ true ↦ Err (place most_by
 no_model : (problem : Stated) (run : RunValue) → IsRecord problem run → run.outcome ≡ Proof → HasNoModel problem.inputs
 no_model problem run recorded is = by recorded.tells.proof
   where
-    by : TellsEnd problem (looks_of run.given no_version) recorded.tells.run run.outcome run.proof run.marks → HasNoModel problem.inputs
+    by : TellsEnd problem no_version recorded.tells.run run.outcome run.proof run.marks → HasNoModel problem.inputs
     by (inl h) = no_model_of problem.inputs h.1.refuted
     by (inr h) = absurd (h.0 is)
 

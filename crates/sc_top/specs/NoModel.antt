@@ -1,7 +1,7 @@
 -- When no interpretation over whole numbers makes clauses all true.
 use Rattle.std.specs.Prelude.{ℕ, List, Bool, All, IsTrue}
-use Rattle.sc_data.specs.declared.SymId.{SymId}
-use Rattle.sc_data.specs.declared.Clause.{Clause}
+use Rattle.sc_term.specs.declared.SymId.{SymId}
+use Rattle.sc_term.specs.declared.Clause.{Clause}
 use Rattle.sc_steps.specs.Model.{IsModel}
 
 -- Whatever whole numbers are the elements, at least one, and whatever the symbols mean over them, = being identity,

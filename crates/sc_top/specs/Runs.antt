@@ -1,14 +1,14 @@
 -- The answer to bytes whose problem is to be proved: the text of a run.
 use Rattle.std.specs.Prelude.{◌≡◌, ℕ, List, Result, Ok, Err, true, false, length, nat_lt}
-use Rattle.sc_reading.specs.declared.fault.InputKind.TheVariants.{TooLong}
-use Rattle.sc_reading.specs.declared.fault.Place.{Place}
-use Rattle.sc_reading.specs.Faults.{place}
-use Rattle.sc_reading.specs.Problem.{Stated}
-use Rattle.sc_reading.specs.Reading.{problem_of}
-use Rattle.sc_rules.specs.declared.row.Outcome.{Outcome}
-use Rattle.sc_rules.specs.declared.row.Outcome.TheVariants.{Proof}
-use Rattle.sc_run_written.specs.RunValue.{RunValue}
-use Rattle.sc_run_written.specs.RunText.{run_text}
+use Rattle.sc_input_rules.specs.declared.fault.InputKind.TheVariants.{TooLong}
+use Rattle.sc_input_rules.specs.declared.fault.Place.{Place}
+use Rattle.sc_input_rules.specs.Faults.{place}
+use Rattle.sc_input_rules.specs.Problem.{Stated}
+use Rattle.sc_input_rules.specs.Reading.{problem_of}
+use Rattle.sc_core_rules.specs.declared.row.Outcome.{Outcome}
+use Rattle.sc_core_rules.specs.declared.row.Outcome.TheVariants.{Proof}
+use Rattle.sc_text_run_rules.specs.RunValue.{RunValue}
+use Rattle.sc_text_run_rules.specs.RunText.{run_text}
 use Rattle.sc_world.specs.Recorded.{IsRecord}
 use Rattle.sc_top.specs.NoModel.{HasNoModel}
 use Rattle.sc_top.specs.Answers.{most_bytes}

@@ -1,14 +1,14 @@
 -- When an answer stands, and what is written of it.
-use Rattle.std.specs.Prelude.{◌≡◌, ℕ, List, ◌⊎◌, ⊤, IfSome, String}
+use Rattle.std.specs.Prelude.{◌≡◌, ◌≤◌, ℕ, List, length, ◌⊎◌, ⊤, IfSome, IsSome, String}
 use Rattle.std.specs.declared.alloc.Global.{Global}
 use Rattle.std.specs.declared.option.Option.{Option}
 use Rattle.sc_base.specs.Causes.{Rose}
 use Rattle.sc_base.specs.Taken.{Grows, GrowsByPart}
-use Rattle.sc_words.specs.declared.commands.Command.{Command}
-use Rattle.sc_words.specs.declared.commands.Command.TheVariants as command
+use Rattle.sc_top_words.specs.declared.commands.Command.{Command}
+use Rattle.sc_top_words.specs.declared.commands.Command.TheVariants as command
 use Rattle.sc_top.specs.declared.answer.Answer.{Answer}
 use Rattle.sc_top.specs.declared.answer.Answer.TheVariants.{ProofChecked, NotAProof, Ran, Model, InputRefused, WordsRefused, ReadFault, OutOfMemory}
-use Rattle.sc_words.specs.Words.{Asks}
+use Rattle.sc_top_words.specs.Words.{Asks}
 use Rattle.sc_top.specs.Answers.{status_of, text_of, IsAnswerTo}
 use Rattle.sc_top.specs.Runs.{IsProveAnswer}
 use Rattle.sc_top.specs.Models.{IsModelAnswer}
@@ -33,7 +33,18 @@ IsAnswerFor words bytes a = (command : Command) × Asks words command × IsAnswe
 abbrev pub AskForNone : List (String Global) → Type 0
 AskForNone words = (command : Command) → ¬ Asks words command
 
--- when the answer stands, by the words, the source's bytes, where it tells them, and its counts of faults before and after
+-- when the answer to the command stands, by the source's bytes, where it tells them, and its counts of faults before and after
+abbrev pub StandsBy : Command → Option (List ℕ) → ℕ → ℕ → Answer → Type 0
+StandsBy command told before now WordsRefused = ⊥
+StandsBy command told before now ReadFault = Rose before now
+StandsBy command told before now OutOfMemory = ⊤
+StandsBy command told before now (ProofChecked n) = IfSome told (λ bytes. IsAnswerBy command bytes (ProofChecked n))
+StandsBy command told before now (NotAProof k) = IfSome told (λ bytes. IsAnswerBy command bytes (NotAProof k))
+StandsBy command told before now (Ran o text) = IfSome told (λ bytes. IsAnswerBy command bytes (Ran o text))
+StandsBy command told before now (Model m) = IfSome told (λ bytes. IsAnswerBy command bytes (Model m))
+StandsBy command told before now (InputRefused p) = IfSome told (λ bytes. IsAnswerBy command bytes (InputRefused p))
+
+-- the same, by the words, the source's bytes, where it tells them, and its counts of faults before and after
 abbrev pub Stands : List (String Global) → Option (List ℕ) → ℕ → ℕ → Answer → Type 0
 Stands words told before now WordsRefused = AskForNone words
 Stands words told before now ReadFault = Rose before now
@@ -46,20 +57,34 @@ Stands words told before now (InputRefused p) = IfSome told (λ bytes. IsAnswerF
 
 -- ---- what is written
 
--- the text of the answer was written whole, and its status given
-pub record IsWritten (old new : Option (List ℕ)) (status : ℕ) (a : Answer) : Type 0 where
+-- the text of the answer was written whole, and its status given; where the text fits into the room that the sink is sure
+-- to tell of, what was written is told
+pub record IsWritten (room : ℕ) (old new : Option (List ℕ)) (status : ℕ) (a : Answer) : Type 0 where
   pub is : status ≡ status_of a
   pub whole : Grows old new (text_of a)
+  pub told : length (text_of a) ≤ room → IsSome old → IsSome new
 
 -- what is written of an answer: its text, or that of want of memory in its place
 abbrev pub TellsOf : (Answer → Type 0) → Answer → Type 0
 TellsOf P a = P a ⊎ P OutOfMemory
 
+-- An answer to the command that stands was written: by the source's bytes and counts of faults, and what the sink had taken.
+pub record IsAnsweredBy (command : Command) (told : Option (List ℕ)) (before now room : ℕ) (old new : Option (List ℕ)) (status : ℕ) : Type 0 where
+  pub answer : Answer
+  pub stands : StandsBy command told before now answer
+  pub written : IsWritten room old new status answer
+
 -- An answer that stands was written: by the source's bytes and counts of faults, and what the sink had taken.
-pub record IsAnswered (words : List (String Global)) (told : Option (List ℕ)) (before now : ℕ) (old new : Option (List ℕ)) (status : ℕ) : Type 0 where
+pub record IsAnswered (words : List (String Global)) (told : Option (List ℕ)) (before now room : ℕ) (old new : Option (List ℕ)) (status : ℕ) : Type 0 where
   pub answer : Answer
   pub stands : Stands words told before now answer
-  pub written : IsWritten old new status answer
+  pub written : IsWritten room old new status answer
+
+-- an answer to the command stands, but of its text a part alone was written
+pub record IsCutShortBy (command : Command) (told : Option (List ℕ)) (before now : ℕ) (old new : Option (List ℕ)) : Type 0 where
+  pub answer : Answer
+  pub stands : StandsBy command told before now answer
+  pub part : GrowsByPart old new (text_of answer)
 
 -- an answer stands, but of its text a part alone was written
 pub record IsCutShort (words : List (String Global)) (told : Option (List ℕ)) (before now : ℕ) (old new : Option (List ℕ)) : Type 0 where
@@ -68,9 +93,9 @@ pub record IsCutShort (words : List (String Global)) (told : Option (List ℕ)) 
   pub part : GrowsByPart old new (text_of answer)
 
 -- the answer that the bytes decide was written, unless a fault of the source or want of memory came between
-abbrev pub IsDecided : Command → Option (List ℕ) → Option (List ℕ) → ℕ → List ℕ → Type 0
-IsDecided command old new status bytes = (a : Answer) → IsAnswerBy command bytes a → IsWritten old new status a ⊎ (status ≡ 5) ⊎ (status ≡ 7)
+abbrev pub IsDecided : Command → ℕ → Option (List ℕ) → Option (List ℕ) → ℕ → List ℕ → Type 0
+IsDecided command room old new status bytes = (a : Answer) → IsAnswerBy command bytes a → IsWritten room old new status a ⊎ (status ≡ 5) ⊎ (status ≡ 7)
 
 -- an answer to the bytes was written whole
-abbrev pub IsToldOf : Command → Option (List ℕ) → Option (List ℕ) → ℕ → List ℕ → Type 0
-IsToldOf command old new status bytes = (a : Answer) × IsAnswerBy command bytes a × IsWritten old new status a
+abbrev pub IsToldOf : Command → ℕ → Option (List ℕ) → Option (List ℕ) → ℕ → List ℕ → Type 0
+IsToldOf command room old new status bytes = (a : Answer) × IsAnswerBy command bytes a × IsWritten room old new status a

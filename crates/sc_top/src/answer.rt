@@ -1,19 +1,18 @@
 //! What the program answers: each answer has a status and a text.
 
 ghost use Rattle.std.specs.Prelude.{◌≡◌, ◌++◌, IfOk, IfSome, IfNone, codes, decimal, string_bytes};
-ghost use Rattle.sc_top.specs.Answers.{outcome_status, modelled_status, modelled_text, status_of, text_of, MakesModelledText, MakesText, kind_text};
+ghost use Rattle.sc_top.specs.Answers.{answer_to, outcome_status, modelled_status, modelled_text, status_of, text_of, MakesModelledText, MakesText, kind_text};
 
-use sc_input::{InputKind, Place};
-use sc_rules::Outcome;
-use sc_term::Mem;
-use sqlite_items::Items;
+use sc_core_rules::Outcome;
+use sc_input::{InputError, InputKind, Place};
+use sc_term::{List, Mem};
 use std::alloc::Global;
 
 /// What became of a search for a model.
 #[derive(Debug, Drop)]
 pub enum Modelled {
     /// The text of the first model.
-    Found { text: Items<u8> },
+    Found { text: List<u8> },
     /// There is none of this size.
     NoModel { size: u8 },
     /// The budget of nodes was spent in this piece, from 1.
@@ -32,7 +31,7 @@ pub enum Answer {
     /// This line, from 1, is the first at fault.
     NotAProof { line: u32 },
     /// The run of this text ended so.
-    Ran { outcome: Outcome, text: Items<u8> },
+    Ran { outcome: Outcome, text: List<u8> },
     /// A model was sought.
     Model(Modelled),
     /// The bytes are refused at this one, for this kind of fault.
@@ -129,6 +128,16 @@ fn modelled_text(alloc: Global, modelled: &Modelled) -> Mem<String>
             format!(in alloc; "too wide: {count} instances\n")?
         }
     })
+}
+
+/// The answer where an input isn't read.
+pub fn refusal(error: InputError) -> Answer
+    ensures { result ≡ answer_to error }
+{
+    match error {
+        InputError::Refused(place) => Answer::InputRefused(place),
+        InputError::OutOfMemory => Answer::OutOfMemory,
+    }
 }
 
 impl Answer {

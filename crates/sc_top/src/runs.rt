@@ -1,34 +1,33 @@
 //! The answer to a problem that is to be proved.
 
-ghost use Rattle.std.specs.Prelude.{◌≡◌, ◌≢◌, ◌≤◌, ◌⊎◌, ℕ, List, Ok, IfOk, length};
+ghost use Rattle.std.specs.Prelude.{◌≡◌, ◌≢◌, ◌≤◌, ◌⊎◌, ℕ, List as AList, Ok, IfOk, length};
 ghost use Rattle.sc_top.specs.declared.answer.Answer.TheVariants.{OutOfMemory};
 ghost use Rattle.sc_top.specs.Answers.{status_of};
 ghost use Rattle.sc_top.specs.Runs.{spelled_problem, IsProveAnswer};
 
-use crate::answer::Answer;
-use sc_input::{InputError, Problem, read_problem};
-use sc_print_run::print_run;
-use sc_term::Mem;
+use crate::answer::{Answer, refusal};
+use sc_input::{Problem, read_problem};
+use sc_term::{List, Mem};
+use sc_text_print::print_run;
 use sc_world::prove_alone;
-use sqlite_items::Items;
 use std::alloc::Global;
 
 /// The text of the run of the problem.
 fn run(alloc: Global, problem: &Problem) -> Mem<Answer>
-    ensures decided { IfOk result (λ answer. (bytes : List ℕ) → spelled_problem bytes ≡ Ok problem.now → IsProveAnswer bytes answer) }
+    ensures decided { IfOk result (λ answer. (bytes : AList ℕ) → spelled_problem bytes ≡ Ok problem.now → IsProveAnswer bytes answer) }
     ensures words { IfOk result (λ answer. status_of answer ≢ 4) }
 {
     let ended = prove_alone(alloc, problem)?;
     let text = print_run(alloc, problem.sig(), &ended.run)?;
     Ok(Answer::Ran {
         outcome: ended.run.outcome,
-        text: Items::from_vec(text),
+        text: List::from_vec(text),
     })
 }
 
 /// The answer to a problem that was read.
 fn prove_problem(alloc: Global, problem: &Problem) -> Answer
-    ensures decided { (bytes : List ℕ) → spelled_problem bytes ≡ Ok problem.now → IsProveAnswer bytes result ⊎ (result ≡ OutOfMemory) }
+    ensures decided { (bytes : AList ℕ) → spelled_problem bytes ≡ Ok problem.now → IsProveAnswer bytes result ⊎ (result ≡ OutOfMemory) }
     ensures words { status_of result ≢ 4 }
 {
     match run(alloc, problem) {
@@ -45,7 +44,6 @@ pub fn prove_bytes(alloc: Global, bytes: &[u8]) -> Answer
 {
     match read_problem(alloc, bytes) {
         Ok(problem) => prove_problem(alloc, &problem),
-        Err(InputError::Refused(place)) => Answer::InputRefused(place),
-        Err(InputError::OutOfMemory) => Answer::OutOfMemory,
+        Err(error) => refusal(error),
     }
 }

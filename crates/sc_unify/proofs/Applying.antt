@@ -1,10 +1,10 @@
 -- What is kept of a substitution makes the same of a clause, within the limits or not.
 use Rattle.std.proofs.Common.{◌≡◌, ◌∙◌, sym, ap, subst, ℕ, ◌+◌, ◌<◌, ◌≤◌, ◌⊎◌, inl, inr, List, map, sum, arith}
-use Rattle.sc_data.specs.declared.Literal.{Literal}
-use Rattle.sc_data.specs.declared.Clause.{Clause}
-use Rattle.sc_data.specs.Term.{largest}
-use Rattle.sc_data.specs.Clause.{literal_weight, literal_depth, IsWithinLimits}
-use Rattle.sc_data.specs.Substitution.{Substitution, literal_under, clause_under}
+use Rattle.sc_term.specs.declared.Literal.{Literal}
+use Rattle.sc_term.specs.declared.Clause.{Clause}
+use Rattle.sc_term.specs.Term.{largest}
+use Rattle.sc_term.specs.Clause.{literal_weight, literal_depth, IsWithinLimits}
+use Rattle.sc_term.specs.Substitution.{Substitution, literal_under, clause_under}
 use Rattle.sc_unify.specs.declared.bound.Binding.{Binding}
 use Rattle.sc_unify.specs.Bindings.{finished, written, AreSolved}
 use Rattle.sc_unify.specs.Unifiers.{substitution}

@@ -3,13 +3,13 @@ use Rattle.std.proofs.Common.{◌≡◌, ◌≢◌, ◌∙◌, sym, ap, subst, r
 use Rattle.std.proofs.lemmas.Bool.{eqb-true, eqb-false, eq-eqb}
 use Rattle.std.proofs.lemmas.List.Sums.{fold-append}
 use Rattle.std.specs.List.{AllByRecursion, fold}
-use Rattle.sc_data.specs.declared.SymId.{SymId}
-use Rattle.sc_data.specs.declared.Term.{Term, Var}
-use Rattle.sc_data.specs.declared.Term.TheVariants.{App}
-use Rattle.sc_data.specs.Term.{joined, term_under, term_variables}
-use Rattle.sc_data.specs.Substitution.{Substitution}
-use Rattle.sc_data.proofs.TermSteps.{under-Var, under-App, variables-Var, variables-App}
-use Rattle.sc_data.proofs.SubstitutionLaws.{all_split, all_join}
+use Rattle.sc_term.specs.declared.SymId.{SymId}
+use Rattle.sc_term.specs.declared.Term.{Term, Var}
+use Rattle.sc_term.specs.declared.Term.TheVariants.{App}
+use Rattle.sc_term.specs.Term.{joined, term_under, term_variables}
+use Rattle.sc_term.specs.Substitution.{Substitution}
+use Rattle.sc_term.proofs.TermSteps.{under-Var, under-App, variables-Var, variables-App}
+use Rattle.sc_term.proofs.SubstitutionLaws.{all_split, all_join}
 use Rattle.sc_unify.specs.declared.bound.Binding.{Binding}
 use Rattle.sc_unify.specs.Bindings.{lookup, single, mark, bind_step, finished, marked, Avoids, Respects, IsFixed, AreSolvedBy, AreSolved}
 use Rattle.sc_unify.proofs.TermFacts.{all_so, compose, variables_under, at_single, beside_single, untouched, same_or_not}

@@ -2,14 +2,14 @@
 use Rattle.std.proofs.Common.{◌≡◌, ◌≢◌, ◌∙◌, sym, ap, subst, refl, ℕ, ◌+◌, ◌<◌, ◌≤◌, suc, zero, List, [], ◌∷◌, map, sum, Option, None, Some, MatchOption, IfSome, arith}
 use Rattle.std.specs.List.{AllByRecursion}
 use Rattle.std.proofs.lemmas.List.Sums.{sum_by-cons}
-use Rattle.sc_data.specs.declared.SymId.{SymId}
-use Rattle.sc_data.specs.declared.Term.{Term, Var, out-Term}
-use Rattle.sc_data.specs.declared.Term.TheVariants.{App}
-use Rattle.sc_data.specs.declared.Term.TheOpen as at
-use Rattle.sc_data.specs.Term.{term_under, term_weight, term_variables, weight_step}
-use Rattle.sc_data.proofs.TermLaws.{term_ind, out-Var, out-App, weight-App, fold-Var}
-use Rattle.sc_data.proofs.TermSteps.{under-Var, under-App}
-use Rattle.sc_data.specs.Substitution.{Substitution}
+use Rattle.sc_term.specs.declared.SymId.{SymId}
+use Rattle.sc_term.specs.declared.Term.{Term, Var, out-Term}
+use Rattle.sc_term.specs.declared.Term.TheVariants.{App}
+use Rattle.sc_term.specs.declared.Term.TheOpen as at
+use Rattle.sc_term.specs.Term.{term_under, term_weight, term_variables, weight_step}
+use Rattle.sc_term.proofs.TermLaws.{term_ind, out-Var, out-App, weight-App, fold-Var}
+use Rattle.sc_term.proofs.TermSteps.{under-Var, under-App}
+use Rattle.sc_term.specs.Substitution.{Substitution}
 use Rattle.sc_unify.specs.declared.bound.Binding.{Binding}
 use Rattle.sc_unify.specs.Bindings.{lookup, mark, finished, marked, cost, AreSolved, Avoids}
 

@@ -2,14 +2,14 @@
 use Rattle.std.proofs.Common.{◌≡◌, ◌≢◌, ◌∙◌, sym, ap, subst, refl, ℕ, zero, suc, ◌+◌, ◌<◌, ◌≤◌, ◌↔◌, ◌⊎◌, inl, inr, List, [], ◌∷◌, ◌++◌, map, sum, length, take, get_or, arith, add-one}
 use Rattle.std.specs.List.{AllByRecursion}
 use Rattle.std.proofs.lemmas.List.Sums.{sum_by-cons}
-use Rattle.sc_data.specs.declared.SymId.{SymId}
-use Rattle.sc_data.specs.declared.Term.{Term, Var}
-use Rattle.sc_data.specs.declared.Term.TheVariants.{App}
-use Rattle.sc_data.specs.Term.{term_under}
-use Rattle.sc_data.proofs.TermLaws.{App-injective}
-use Rattle.sc_data.proofs.TermSteps.{under-Var, under-App}
-use Rattle.sc_data.proofs.SubstitutionLaws.{all_split, all_join}
-use Rattle.sc_data.specs.Substitution.{Substitution}
+use Rattle.sc_term.specs.declared.SymId.{SymId}
+use Rattle.sc_term.specs.declared.Term.{Term, Var}
+use Rattle.sc_term.specs.declared.Term.TheVariants.{App}
+use Rattle.sc_term.specs.Term.{term_under}
+use Rattle.sc_term.proofs.TermLaws.{App-injective}
+use Rattle.sc_term.proofs.TermSteps.{under-Var, under-App}
+use Rattle.sc_term.proofs.SubstitutionLaws.{all_split, all_join}
+use Rattle.sc_term.specs.Substitution.{Substitution}
 use Rattle.sc_unify.specs.declared.bound.Binding.{Binding}
 use Rattle.sc_unify.specs.Bindings.{Respects, AreSolved, finished, cost}
 use Rattle.sc_unify.specs.declared.equation.Equation.{Equation}

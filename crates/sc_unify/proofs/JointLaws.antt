@@ -1,18 +1,18 @@
 -- The terms of a joint instance: rows of clauses, and their widths when shifted.
 use Rattle.std.proofs.Common.{◌≡◌, ◌≢◌, ◌∙◌, sym, ap, subst, refl, ℕ, zero, suc, ◌+◌, ◌-◌, ◌<◌, ◌≤◌, ◌⊎◌, ◌↔◌, inl, inr, max, List, [], ◌∷◌, ◌++◌, append_assoc, map, sum, length, get_or, slice_get, take, drop, Some, arith, add-one}
 use Rattle.std.specs.List.{AllByRecursion, fold}
-use Rattle.sc_data.specs.declared.SymId.{SymId}
-use Rattle.sc_data.specs.declared.Term.{Term, Var}
-use Rattle.sc_data.specs.declared.Term.TheVariants.{App}
-use Rattle.sc_data.specs.declared.Literal.{Literal}
-use Rattle.sc_data.specs.declared.Clause.{Clause}
-use Rattle.sc_data.specs.Term.{joined, largest, term_under, term_variables, term_width, term_weight, term_depth, depth_step, value_of}
-use Rattle.sc_data.specs.Clause.{literal_width, literal_weight, literal_depth, variables, width, instance, IsWithinLimits}
-use Rattle.sc_data.specs.Substitution.{Substitution, literal_under, clause_under}
-use Rattle.sc_data.specs.JointInstance.{apart_above, shift, whole}
-use Rattle.sc_data.proofs.TermLaws.{term_ind, fold-Var, width-Var, width-App, weight-App, depth-App}
-use Rattle.sc_data.proofs.TermSteps.{under-Var, under-App, variables-Var, variables-App}
-use Rattle.sc_data.proofs.SubstitutionLaws.{all_join, clause_laws}
+use Rattle.sc_term.specs.declared.SymId.{SymId}
+use Rattle.sc_term.specs.declared.Term.{Term, Var}
+use Rattle.sc_term.specs.declared.Term.TheVariants.{App}
+use Rattle.sc_term.specs.declared.Literal.{Literal}
+use Rattle.sc_term.specs.declared.Clause.{Clause}
+use Rattle.sc_term.specs.Term.{joined, largest, term_under, term_variables, term_width, term_weight, term_depth, depth_step, value_of}
+use Rattle.sc_term.specs.Clause.{literal_width, literal_weight, literal_depth, variables, width, instance, IsWithinLimits}
+use Rattle.sc_term.specs.Substitution.{Substitution, literal_under, clause_under}
+use Rattle.sc_term.specs.JointInstance.{apart_above, shift, whole}
+use Rattle.sc_term.proofs.TermLaws.{term_ind, fold-Var, width-Var, width-App, weight-App, depth-App}
+use Rattle.sc_term.proofs.TermSteps.{under-Var, under-App, variables-Var, variables-App}
+use Rattle.sc_term.proofs.SubstitutionLaws.{all_join, clause_laws}
 use Rattle.sc_unify.specs.Joint.{values, values_above, AreTermsOf}
 use Rattle.sc_unify.proofs.TermFacts.{all_so, same_or_not, map_append}
 use Rattle.sc_unify.proofs.Costs.{weight-Var}

@@ -2,13 +2,13 @@
 use Rattle.std.proofs.Common.{◌≡◌, ◌∙◌, sym, ap, subst, refl, ℕ, zero, suc, ◌+◌, ◌-◌, ◌<◌, ◌≤◌, ◌⊎◌, inl, inr, max, List, [], ◌∷◌, ◌++◌, append_assoc, map, sum, length, get_or, take, drop, arith, add-one}
 use Rattle.std.specs.List.{fold}
 use Rattle.std.proofs.lemmas.List.Sums.{fold-append, sum_by-cons}
-use Rattle.sc_data.specs.declared.Literal.{Literal}
-use Rattle.sc_data.specs.declared.Term.{Term}
-use Rattle.sc_data.specs.declared.Clause.{Clause}
-use Rattle.sc_data.specs.Term.{joined, largest}
-use Rattle.sc_data.specs.Clause.{variables, width}
-use Rattle.sc_data.specs.Substitution.{Substitution}
-use Rattle.sc_data.specs.JointInstance.{whole}
+use Rattle.sc_term.specs.declared.Literal.{Literal}
+use Rattle.sc_term.specs.declared.Term.{Term}
+use Rattle.sc_term.specs.declared.Clause.{Clause}
+use Rattle.sc_term.specs.Term.{joined, largest}
+use Rattle.sc_term.specs.Clause.{variables, width}
+use Rattle.sc_term.specs.Substitution.{Substitution}
+use Rattle.sc_term.specs.JointInstance.{whole}
 use Rattle.sc_term.specs.Occurrence.{noted}
 use Rattle.sc_term.proofs.Occurrences.{noted-append}
 use Rattle.sc_unify.specs.Joint.{values, values_above}

@@ -1,15 +1,15 @@
 -- The terms that are told are those of the joint instance, whose limits were measured.
 use Rattle.std.proofs.Common.{◌≡◌, ◌∙◌, sym, ap, subst, refl, ℕ, ◌+◌, ◌<◌, ◌≤◌, ◌⊎◌, inl, inr, nat_eq, List, [], map, sum, arith}
 use Rattle.std.specs.List.{position_or_len}
-use Rattle.sc_data.specs.declared.Term.{Term}
-use Rattle.sc_data.specs.declared.Clause.{Clause}
-use Rattle.sc_data.specs.declared.Pair.{Pair}
-use Rattle.sc_data.specs.Term.{joined, largest}
-use Rattle.sc_data.specs.Clause.{literal_weight, literal_depth, variables, firsts, IsWithinLimits}
-use Rattle.sc_data.specs.Substitution.{Substitution, clause_under, IsMostGeneralUnifier}
-use Rattle.sc_data.specs.JointInstance.{apart, renumbering, renumbered, whole, IsJointInstance}
-use Rattle.sc_data.proofs.RenamingLaws.{joint_instance_is_one}
-use Rattle.sc_data.proofs.SubstitutionLaws.{clauses_laws}
+use Rattle.sc_term.specs.declared.Term.{Term}
+use Rattle.sc_term.specs.declared.Clause.{Clause}
+use Rattle.sc_term.specs.declared.Pair.{Pair}
+use Rattle.sc_term.specs.Term.{joined, largest}
+use Rattle.sc_term.specs.Clause.{literal_weight, literal_depth, variables, firsts, IsWithinLimits}
+use Rattle.sc_term.specs.Substitution.{Substitution, clause_under, IsMostGeneralUnifier}
+use Rattle.sc_term.specs.JointInstance.{apart, renumbering, renumbered, whole, IsJointInstance}
+use Rattle.sc_term.proofs.RenamingLaws.{joint_instance_is_one}
+use Rattle.sc_term.proofs.SubstitutionLaws.{clauses_laws}
 use Rattle.sc_unify.specs.declared.bound.Binding.{Binding}
 use Rattle.sc_unify.specs.Bindings.{finished}
 use Rattle.sc_unify.specs.Joint.{value_at, values_above, AreTermsOf}

@@ -3,17 +3,17 @@ use Rattle.std.proofs.Common.{◌≡◌, ◌≢◌, ◌∙◌, sym, ap, subst, r
 use Rattle.std.specs.List.{AllByRecursion, list_any, fold}
 use Rattle.std.specs.Option.{unwrap_or}
 use Rattle.std.proofs.lemmas.Bool.{eqb-true, eqb-false, eq-eqb}
-use Rattle.sc_data.specs.declared.SymId.{SymId}
-use Rattle.sc_data.specs.declared.Term.{Term, Var}
-use Rattle.sc_data.specs.declared.Term.TheVariants.{App}
-use Rattle.sc_data.specs.declared.Literal.{Literal}
-use Rattle.sc_data.specs.Term.{joined, largest, term_under, term_variables, term_width, value_of}
-use Rattle.sc_data.specs.Clause.{literal_width, literal_instance}
-use Rattle.sc_data.specs.Refuted.{Atom, atom_of}
-use Rattle.sc_data.specs.Substitution.{Substitution, literal_under}
-use Rattle.sc_data.proofs.TermLaws.{term_ind, App-injective, width-Var, width-App}
-use Rattle.sc_data.proofs.TermSteps.{under-Var, under-App, variables-Var, variables-App}
-use Rattle.sc_data.proofs.SubstitutionLaws.{all_split, all_join, literal_laws}
+use Rattle.sc_term.specs.declared.SymId.{SymId}
+use Rattle.sc_term.specs.declared.Term.{Term, Var}
+use Rattle.sc_term.specs.declared.Term.TheVariants.{App}
+use Rattle.sc_term.specs.declared.Literal.{Literal}
+use Rattle.sc_term.specs.Term.{joined, largest, term_under, term_variables, term_width, value_of}
+use Rattle.sc_term.specs.Clause.{literal_width, literal_instance}
+use Rattle.sc_term.specs.Refuted.{Atom, atom_of}
+use Rattle.sc_term.specs.Substitution.{Substitution, literal_under}
+use Rattle.sc_term.proofs.TermLaws.{term_ind, App-injective, width-Var, width-App}
+use Rattle.sc_term.proofs.TermSteps.{under-Var, under-App, variables-Var, variables-App}
+use Rattle.sc_term.proofs.SubstitutionLaws.{all_split, all_join, literal_laws}
 use Rattle.sc_unify.specs.declared.bound.Binding.{Binding}
 use Rattle.sc_unify.specs.Bindings.{lookup}
 use Rattle.sc_unify.specs.Matching.{Gives, IsFunctional, IsMatched, Matches, filled, IsMatch, HasNoMatch}

@@ -2,14 +2,14 @@
 use Rattle.std.proofs.Common.{◌≡◌, ◌≢◌, ◌∙◌, sym, ap, subst, refl, ℕ, Bool, true, false, nat_eq, if◌then◌else◌, List, [], ◌∷◌, ◌++◌, append_assoc, map}
 use Rattle.std.proofs.lemmas.Bool.{eqb-true, eqb-false, eq-eqb}
 use Rattle.std.specs.List.{AllByRecursion}
-use Rattle.sc_data.specs.declared.SymId.{SymId}
-use Rattle.sc_data.specs.declared.Term.{Term, Var}
-use Rattle.sc_data.specs.declared.Term.TheVariants.{App}
-use Rattle.sc_data.specs.Term.{joined, term_under, term_variables}
-use Rattle.sc_data.proofs.TermLaws.{term_ind}
-use Rattle.sc_data.specs.Substitution.{Substitution}
-use Rattle.sc_data.proofs.TermSteps.{under-Var, under-App, variables-Var, variables-App}
-use Rattle.sc_data.proofs.SubstitutionLaws.{all_split, all_join, all_of, term_laws}
+use Rattle.sc_term.specs.declared.SymId.{SymId}
+use Rattle.sc_term.specs.declared.Term.{Term, Var}
+use Rattle.sc_term.specs.declared.Term.TheVariants.{App}
+use Rattle.sc_term.specs.Term.{joined, term_under, term_variables}
+use Rattle.sc_term.proofs.TermLaws.{term_ind}
+use Rattle.sc_term.specs.Substitution.{Substitution}
+use Rattle.sc_term.proofs.TermSteps.{under-Var, under-App, variables-Var, variables-App}
+use Rattle.sc_term.proofs.SubstitutionLaws.{all_split, all_join, all_of, term_laws}
 use Rattle.sc_unify.specs.Bindings.{single, Avoids}
 
 pub all_so : {X : Type 0} (P Q : X → Type 0) → ((x : X) → P x → Q x) → (xs : List X) → AllByRecursion P xs → AllByRecursion Q xs

@@ -4,13 +4,13 @@ use Rattle.std.specs.List.{AllByRecursion, list_any}
 use Rattle.std.proofs.lemmas.Bool.{eqb-true, eqb-false, eq-eqb}
 use Rattle.std.proofs.lemmas.List.Folds.{list_any-append}
 use Rattle.std.proofs.lemmas.List.Sums.{sum_by-cons}
-use Rattle.sc_data.specs.declared.SymId.{SymId}
-use Rattle.sc_data.specs.declared.Term.{Term, Var}
-use Rattle.sc_data.specs.declared.Term.TheVariants.{App}
-use Rattle.sc_data.specs.Term.{joined, term_under, term_variables, term_weight}
-use Rattle.sc_data.proofs.TermLaws.{term_ind, weight-App}
-use Rattle.sc_data.proofs.TermSteps.{under-Var, under-App, variables-Var, variables-App}
-use Rattle.sc_data.specs.Substitution.{Substitution}
+use Rattle.sc_term.specs.declared.SymId.{SymId}
+use Rattle.sc_term.specs.declared.Term.{Term, Var}
+use Rattle.sc_term.specs.declared.Term.TheVariants.{App}
+use Rattle.sc_term.specs.Term.{joined, term_under, term_variables, term_weight}
+use Rattle.sc_term.proofs.TermLaws.{term_ind, weight-App}
+use Rattle.sc_term.proofs.TermSteps.{under-Var, under-App, variables-Var, variables-App}
+use Rattle.sc_term.specs.Substitution.{Substitution}
 use Rattle.sc_unify.specs.declared.bound.Binding.{Binding}
 use Rattle.sc_unify.specs.Bindings.{lookup, finished, AreSolved, Respects, IsWalked, occurs_in}
 use Rattle.sc_unify.proofs.TermFacts.{same_or_not}

@@ -3,14 +3,14 @@ use Rattle.std.proofs.Common.{◌≡◌, ◌≢◌, ◌∙◌, sym, ap, subst, r
 use Rattle.std.specs.List.{All, AllByRecursion}
 use Rattle.std.specs.Option.{unwrap_or}
 use Rattle.std.proofs.lemmas.Bool.{eqb-true, eq-eqb}
-use Rattle.sc_data.specs.declared.SymId.{SymId}
-use Rattle.sc_data.specs.declared.Term.{Term, Var}
-use Rattle.sc_data.specs.declared.Literal.{Literal}
-use Rattle.sc_data.specs.declared.Pair.{Pair}
-use Rattle.sc_data.specs.Refuted.{Atom, atom_of}
-use Rattle.sc_data.specs.Term.{term_under}
-use Rattle.sc_data.specs.Substitution.{Substitution, literal_under, IsUnifier, IsMostGeneralUnifier, Unify}
-use Rattle.sc_data.proofs.TermLaws.{same_symbol}
+use Rattle.sc_term.specs.declared.SymId.{SymId}
+use Rattle.sc_term.specs.declared.Term.{Term, Var}
+use Rattle.sc_term.specs.declared.Literal.{Literal}
+use Rattle.sc_term.specs.declared.Pair.{Pair}
+use Rattle.sc_term.specs.Refuted.{Atom, atom_of}
+use Rattle.sc_term.specs.Term.{term_under}
+use Rattle.sc_term.specs.Substitution.{Substitution, literal_under, IsUnifier, IsMostGeneralUnifier, Unify}
+use Rattle.sc_term.proofs.TermLaws.{same_symbol}
 use Rattle.sc_unify.specs.declared.bound.Binding.{Binding}
 use Rattle.sc_unify.specs.Bindings.{lookup, finished, written, Respects, AreSolved}
 use Rattle.sc_unify.specs.Equations.{Equal, equated, Solves, IsSolution, HasNoSolution, IsMostGeneralSolution}

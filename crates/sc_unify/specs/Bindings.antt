@@ -1,11 +1,11 @@
 -- Variables bound to terms one after another, and the substitution that they make.
 use Rattle.std.specs.Prelude.{◌≡◌, ◌≢◌, ℕ, ◌+◌, List, [], ◌∷◌, map, nat_eq, if◌then◌else◌, Bool, Option, None, Some, MatchOption, IfSome}
 use Rattle.std.specs.List.{fold, AllByRecursion, list_any}
-use Rattle.sc_data.specs.declared.SymId.{SymId}
-use Rattle.sc_data.specs.declared.Term.{Term, Var}
-use Rattle.sc_data.specs.declared.Term.TheVariants.{App}
-use Rattle.sc_data.specs.Term.{term_under, term_variables, term_weight}
-use Rattle.sc_data.specs.Substitution.{Substitution}
+use Rattle.sc_term.specs.declared.SymId.{SymId}
+use Rattle.sc_term.specs.declared.Term.{Term, Var}
+use Rattle.sc_term.specs.declared.Term.TheVariants.{App}
+use Rattle.sc_term.specs.Term.{term_under, term_variables, term_weight}
+use Rattle.sc_term.specs.Substitution.{Substitution}
 use Rattle.sc_unify.specs.declared.bound.Bound.{Bound}
 use Rattle.sc_unify.specs.declared.bound.Binding.{Binding}
 

@@ -1,11 +1,11 @@
 -- The terms that take clauses to their parts of a joint instance.
 use Rattle.std.specs.Prelude.{◌≡◌, ℕ, ◌+◌, ◌-◌, zero, suc, List, [], ◌∷◌, ◌++◌, length}
-use Rattle.sc_data.specs.declared.Term.{Term}
-use Rattle.sc_data.specs.declared.Clause.{Clause}
-use Rattle.sc_data.specs.Clause.{width, instance}
-use Rattle.sc_data.specs.Term.{term_under}
-use Rattle.sc_data.specs.Substitution.{Substitution}
-use Rattle.sc_data.specs.JointInstance.{renumbering}
+use Rattle.sc_term.specs.declared.Term.{Term}
+use Rattle.sc_term.specs.declared.Clause.{Clause}
+use Rattle.sc_term.specs.Clause.{width, instance}
+use Rattle.sc_term.specs.Term.{term_under}
+use Rattle.sc_term.specs.Substitution.{Substitution}
+use Rattle.sc_term.specs.JointInstance.{renumbering}
 use Rattle.sc_unify.specs.declared.bound.Binding.{Binding}
 use Rattle.sc_unify.specs.Bindings.{finished}
 

@@ -2,12 +2,12 @@
 use Rattle.std.specs.Prelude.{◌≡◌, ◌≢◌, ◌<◌, ◌↔◌, ℕ, zero, suc, List, [], ◌∷◌, ◌++◌, map, length, slice_get, nat_eq, Bool, true, false, Some}
 use Rattle.std.specs.List.{AllByRecursion, list_any}
 use Rattle.std.specs.Option.{unwrap_or}
-use Rattle.sc_data.specs.declared.Term.{Term, Var}
-use Rattle.sc_data.specs.declared.Literal.{Literal}
-use Rattle.sc_data.specs.Term.{joined, term_variables}
-use Rattle.sc_data.specs.Clause.{literal_width, literal_instance}
-use Rattle.sc_data.specs.Refuted.{atom_of}
-use Rattle.sc_data.specs.Substitution.{Substitution, literal_under}
+use Rattle.sc_term.specs.declared.Term.{Term, Var}
+use Rattle.sc_term.specs.declared.Literal.{Literal}
+use Rattle.sc_term.specs.Term.{joined, term_variables}
+use Rattle.sc_term.specs.Clause.{literal_width, literal_instance}
+use Rattle.sc_term.specs.Refuted.{atom_of}
+use Rattle.sc_term.specs.Substitution.{Substitution, literal_under}
 use Rattle.sc_unify.specs.declared.bound.Binding.{Binding}
 use Rattle.sc_unify.specs.Bindings.{lookup}
 

@@ -1,11 +1,11 @@
 -- Substitutions as maps, and the equations of pairs of literals.
 use Rattle.std.specs.Prelude.{◌≡◌, ◌↔◌, ℕ, List, Bool, true, false}
 use Rattle.std.specs.Option.{unwrap_or}
-use Rattle.sc_data.specs.declared.Term.{Term, Var}
-use Rattle.sc_data.specs.declared.Literal.{Literal}
-use Rattle.sc_data.specs.declared.Pair.{Pair}
-use Rattle.sc_data.specs.Refuted.{atom_of}
-use Rattle.sc_data.specs.Substitution.{Substitution, literal_under, IsUnifier}
+use Rattle.sc_term.specs.declared.Term.{Term, Var}
+use Rattle.sc_term.specs.declared.Literal.{Literal}
+use Rattle.sc_term.specs.declared.Pair.{Pair}
+use Rattle.sc_term.specs.Refuted.{atom_of}
+use Rattle.sc_term.specs.Substitution.{Substitution, literal_under, IsUnifier}
 use Rattle.sc_unify.specs.declared.bound.Binding.{Binding}
 use Rattle.sc_unify.specs.Bindings.{lookup}
 use Rattle.sc_unify.specs.Equations.{Equal, Solves}

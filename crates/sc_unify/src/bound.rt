@@ -3,9 +3,9 @@
 ghost use Rattle.std.specs.Prelude.{◌≡◌, ◌≤◌, IfSome, IfNone, None};
 ghost use Rattle.std.specs.Option.{option_copied};
 ghost use Rattle.sc_unify.specs.Bindings.{lookup, bindings, AreSolved, finished, cost, IsWalked};
-ghost use Rattle.sc_data.specs.Term.{term_under};
+ghost use Rattle.sc_term.specs.Term.{term_under};
 
-use sc_data::Term;
+use sc_term::Term;
 
 /// A variable and the term that it stands for.
 #[derive(Debug, Drop)]

@@ -4,8 +4,7 @@ ghost use Rattle.std.specs.Prelude.{◌≡◌, ◌++◌, length, OnOk};
 ghost use Rattle.sc_unify.specs.Equations.{equations, equated, Asks};
 
 use crate::bound::Bound;
-use sc_data::Term;
-use sc_term::Mem;
+use sc_term::{Mem, Term};
 
 /// Two terms that are to become equal.
 #[derive(Clone, Copy)]

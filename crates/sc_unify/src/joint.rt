@@ -1,12 +1,12 @@
 //! The terms that take parents to their parts of a joint instance.
 
-ghost use Rattle.std.specs.Prelude.{◌≡◌, ◌↔◌, ◌<◌, ◌≤◌, ◌+◌, ◌-◌, ◌^◌, ℕ, List, [], map, sum, IfOk, IfSome, IsSome, OnOk};
-ghost use Rattle.sc_data.specs.declared.Clause.{Clause as AClause};
-ghost use Rattle.sc_data.specs.declared.Pair.{Pair as APair};
-ghost use Rattle.sc_data.specs.Term.{joined, largest, term_under};
-ghost use Rattle.sc_data.specs.Clause.{IsWithinLimits, literal_depth, literal_weight, variables, width};
-ghost use Rattle.sc_data.specs.Substitution.{IsMostGeneralUnifier, clause_under, literal_under};
-ghost use Rattle.sc_data.specs.JointInstance.{IsJointInstance, apart, whole};
+ghost use Rattle.std.specs.Prelude.{◌≡◌, ◌↔◌, ◌<◌, ◌≤◌, ◌+◌, ◌-◌, ◌^◌, ℕ, List as AList, [], map, sum, IfOk, IfSome, IsSome, OnOk};
+ghost use Rattle.sc_term.specs.declared.Clause.{Clause as AClause};
+ghost use Rattle.sc_term.specs.declared.Pair.{Pair as APair};
+ghost use Rattle.sc_term.specs.Term.{joined, largest, term_under};
+ghost use Rattle.sc_term.specs.Clause.{IsWithinLimits, literal_depth, literal_weight, variables, width};
+ghost use Rattle.sc_term.specs.Substitution.{IsMostGeneralUnifier, clause_under, literal_under};
+ghost use Rattle.sc_term.specs.JointInstance.{IsJointInstance, apart, whole};
 ghost use Rattle.sc_term.specs.Occurrence.{noted};
 ghost use Rattle.sc_unify.specs.Bindings.{bindings, AreSolved, finished};
 ghost use Rattle.sc_unify.specs.Joint.{value_at, values, values_above, AreTermsOf};
@@ -14,12 +14,10 @@ ghost use Rattle.sc_unify.specs.Limits.{Spends};
 ghost use Rattle.sc_unify.specs.Unifiers.{substitution};
 
 use crate::bound::{Bound, find};
-use crate::limits::{WEIGHT, spend_literals};
+use crate::limits::spend_literals;
 use crate::substitution::Subst;
 use crate::write::{write_clause, write_term};
-use sc_data::{Clause, Term};
-use sc_term::{Mem, note_variables, renumber_term, width};
-use sqlite_items::Items;
+use sc_term::{Clause, List, MAX_WEIGHT, Mem, Term, note_variables, renumber_term, width};
 use std::alloc::Global;
 
 /// What is left of a weight after what the bindings make of the clauses, or None where they weigh more or one is
@@ -79,12 +77,12 @@ fn values<'a>(
     order: &[u32],
     first: u32,
     count: u32,
-) -> Mem<Items<Term>>
+) -> Mem<List<Term>>
     requires solved { AreSolved (bindings bound.now) }
     requires small { first + count < 2 ^ 32 }
     ensures { IfOk result (λ terms. terms ≡ values (value_at (bindings bound.now) order.now) first count) }
 {
-    let mut terms = Items::new(alloc);
+    let mut terms = List::new(alloc);
     for n in 0..count {
         terms.push(value(alloc, bound, order, first + n)?)?;
     }
@@ -97,13 +95,13 @@ fn values_of<'a>(
     bound: &[Bound<'a>],
     order: &[u32],
     clauses: &[Clause],
-) -> Mem<Items<Items<Term>>>
+) -> Mem<List<List<Term>>>
     requires solved { AreSolved (bindings bound.now) }
     requires small { largest (map width clauses.now) < 2 ^ 31 }
     ensures { IfOk result (λ told. told ≡ values_above (value_at (bindings bound.now) order.now) 0 clauses.now) }
 {
     let mut low: u32 = 0;
-    let mut told = Items::new(alloc);
+    let mut told = List::new(alloc);
     for c in clauses {
         let count = width(c).saturating_sub(low);
         told.push(values(alloc, bound, order, low, count)?)?;
@@ -117,19 +115,19 @@ fn values_of<'a>(
 pub fn joint_terms(
     alloc: Global,
     s: &Subst,
-    parents: &Items<Clause>,
-) -> Mem<Option<Items<Items<Term>>>>
+    parents: &List<Clause>,
+) -> Mem<Option<List<List<Term>>>>
     requires { largest (map width parents.now) < 2 ^ 31 }
-    ensures parts { (own : List AClause) (pairs : List APair) (parts : List AClause) → parents.now ≡ apart own
+    ensures parts { (own : AList AClause) (pairs : AList APair) (parts : AList AClause) → parents.now ≡ apart own
         → IsMostGeneralUnifier pairs (substitution s.now) → IsJointInstance own pairs parts
         → IfOk result (λ told. IfSome told (λ terms. AreTermsOf own terms parts)) }
-    ensures limits { (own : List AClause) (pairs : List APair) (parts : List AClause) → parents.now ≡ apart own
+    ensures limits { (own : AList AClause) (pairs : AList APair) (parts : AList AClause) → parents.now ≡ apart own
         → IsMostGeneralUnifier pairs (substitution s.now) → IsJointInstance own pairs parts
         → IfOk result (λ told. IsSome told ↔ IsWithinLimits (whole parts)) }
 {
     let bound = s.bindings(alloc)?;
     let parents = parents.as_slice();
-    match spend_clauses(bound.as_slice(), parents, WEIGHT) {
+    match spend_clauses(bound.as_slice(), parents, MAX_WEIGHT) {
         Some(_) => {
             let order = order_of(alloc, bound.as_slice(), parents)?;
             let told = values_of(alloc, bound.as_slice(), order.as_slice(), parents)?;

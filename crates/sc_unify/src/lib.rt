@@ -1,6 +1,6 @@
 //! Unification, matching and joint instances (Robinson's algorithm over a triangular substitution).
 //!
-//! It stands on the terms, unifiers and instances that sc_data defines and proves laws of, and on sc_term's copies
+//! It stands on the terms, unifiers and instances that sc_term defines and proves laws of, and on sc_term's copies
 //! and comparisons. Callers may rest on these: `unify` and `unify_all` answer a most general unifier, and None exactly
 //! where there is no unifier; `match_onto` answers terms that make the atoms equal, and None exactly where there are
 //! none; `Subst::apply_limited` answers the instance, and None exactly where it weighs over 10,000 or is deeper than
@@ -26,8 +26,6 @@ mod write;
 
 pub use joint::joint_terms;
 pub use matching::match_onto;
+pub use sc_term::Pair;
 pub use substitution::Subst;
 pub use unifier::{unify, unify_all};
-
-#[cfg(test)]
-mod tests;

@@ -2,20 +2,14 @@
 //! passed, so that a term which would be far too large is refused at once.
 
 ghost use Rattle.std.specs.Prelude.{◌≡◌, map, sum};
-ghost use Rattle.sc_data.specs.Term.{term_under, term_weight, term_depth, largest};
-ghost use Rattle.sc_data.specs.Clause.{literal_weight, literal_depth};
-ghost use Rattle.sc_data.specs.Substitution.{literal_under};
+ghost use Rattle.sc_term.specs.Term.{term_under, term_weight, term_depth, largest};
+ghost use Rattle.sc_term.specs.Clause.{literal_weight, literal_depth};
+ghost use Rattle.sc_term.specs.Substitution.{literal_under};
 ghost use Rattle.sc_unify.specs.Bindings.{bindings, AreSolved, finished};
 ghost use Rattle.sc_unify.specs.Limits.{Spends};
 
 use crate::bound::{Bound, walk};
-use sc_data::{Literal, Term};
-
-/// The greatest weight of what is made.
-pub const WEIGHT: u32 = 10_000;
-
-/// The greatest depth of what is made.
-const DEPTH: u32 = 256;
+use sc_term::{Literal, MAX_DEPTH, Term};
 
 /// What is left of a weight after the term, or None where it weighs more or is deeper than `depth`.
 #[cycle(spending)]
@@ -57,7 +51,7 @@ fn spend_literal<'a>(bound: &[Bound<'a>], literal: &'a Literal, weight: u32) -> 
     if weight == 0 {
         return None;
     }
-    spend_terms(bound, literal.args.as_slice(), weight - 1, DEPTH - 1)
+    spend_terms(bound, literal.args.as_slice(), weight - 1, MAX_DEPTH - 1)
 }
 
 /// What is left of a weight after the literals, or None where they weigh more or one is deeper than the limit.

@@ -2,15 +2,13 @@
 
 ghost use Rattle.std.specs.Prelude.{◌≡◌, ◌∷◌, [], map, IfOk, MatchOption};
 ghost use Rattle.std.specs.Option.{option_copied, unwrap_or};
-ghost use Rattle.sc_data.specs.declared.Term.{Var};
-ghost use Rattle.sc_data.specs.Term.{joined, term_under, term_variables};
+ghost use Rattle.sc_term.specs.declared.Term.{Var};
+ghost use Rattle.sc_term.specs.Term.{joined, term_under, term_variables};
 ghost use Rattle.sc_unify.specs.Bindings.{bindings, lookup};
 ghost use Rattle.sc_unify.specs.Matching.{Matches, filled, IsMatch, HasNoMatch};
 
 use crate::bound::{Bound, find};
-use sc_data::{Literal, Term};
-use sc_term::{Mem, copy_term, same_term, terms_width};
-use sqlite_items::Items;
+use sc_term::{List, Literal, Mem, Term, copy_term, same_term, terms_width};
 use std::alloc::Global;
 
 /// Gives the variable the term, unless it has another one. Whether it can.
@@ -87,10 +85,10 @@ fn filling(alloc: Global, bound: &[Bound], variable: u64) -> Mem<Term>
 }
 
 /// The terms of the variables below the width, variable 0 for one that was given none.
-fn fill(alloc: Global, bound: &[Bound], width: u64) -> Mem<Items<Term>>
+fn fill(alloc: Global, bound: &[Bound], width: u64) -> Mem<List<Term>>
     ensures { IfOk result (λ terms. terms ≡ filled (bindings bound.now) width) }
 {
-    let mut terms = Items::new(alloc);
+    let mut terms = List::new(alloc);
     for n in 0..width {
         terms.push(filling(alloc, bound, n)?)?;
     }
@@ -99,7 +97,7 @@ fn fill(alloc: Global, bound: &[Bound], width: u64) -> Mem<Items<Term>>
 
 /// Terms for the pattern's variables that make its atom the target's, or None where there are none. A variable below
 /// the width that doesn't occur gets variable 0. Signs don't count.
-pub fn match_onto(alloc: Global, pattern: &Literal, target: &Literal) -> Mem<Option<Items<Term>>>
+pub fn match_onto(alloc: Global, pattern: &Literal, target: &Literal) -> Mem<Option<List<Term>>>
     ensures { IfOk result (λ found. MatchOption found (HasNoMatch pattern.now target.now) (λ terms. IsMatch pattern.now target.now terms)) }
 {
     if pattern.pred != target.pred {

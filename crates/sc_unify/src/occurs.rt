@@ -2,13 +2,12 @@
 //! so that a term which is far larger when written out is checked in the time that its parts take.
 
 ghost use Rattle.std.specs.Prelude.{◌≡◌, ◌++◌, ◌∷◌, [], None, map, IfOk, OnOk};
-ghost use Rattle.sc_data.specs.Term.{term_under};
+ghost use Rattle.sc_term.specs.Term.{term_under};
 ghost use Rattle.sc_unify.specs.Bindings.{lookup, bindings, AreSolved, finished, occurs_in};
 ghost use Rattle.sc_unify.specs.Search.{terms, Enters};
 
 use crate::bound::{Bound, find};
-use sc_data::Term;
-use sc_term::Mem;
+use sc_term::{Mem, Term};
 use std::alloc::Global;
 
 /// The term of a bound variable, the first time that the variable is met.

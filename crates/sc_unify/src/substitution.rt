@@ -1,17 +1,15 @@
 //! Substitutions, kept as the bindings that make them.
 
 ghost use Rattle.std.specs.Prelude.{◌≡◌, ◌↔◌, IfOk, IfSome, IsSome};
-ghost use Rattle.sc_data.specs.Clause.{IsWithinLimits};
-ghost use Rattle.sc_data.specs.Substitution.{clause_under};
+ghost use Rattle.sc_term.specs.Clause.{IsWithinLimits};
+ghost use Rattle.sc_term.specs.Substitution.{clause_under};
 ghost use Rattle.sc_unify.specs.Bindings.{bindings, written, finished, AreSolved};
 ghost use Rattle.sc_unify.specs.Unifiers.{substitution};
 
 use crate::bound::{Binding, Bound};
-use crate::limits::{WEIGHT, spend_literals};
+use crate::limits::spend_literals;
 use crate::write::write_clause;
-use sc_data::Clause;
-use sc_term::{Mem, copy_term};
-use sqlite_items::Items;
+use sc_term::{Clause, List, MAX_WEIGHT, Mem, copy_term};
 use std::alloc::Global;
 use std::marker::Model;
 
@@ -19,17 +17,17 @@ use std::marker::Model;
 /// bindings, whose terms are parts of those that were unified, also where the terms of the map are far larger.
 #[derive(Drop)]
 pub struct Subst {
-    entries: Items<Binding>,
+    entries: List<Binding>,
 }
 
 impl Model for Subst {
-    ghost use Rattle.std.specs.Prelude.{List};
+    ghost use Rattle.std.specs.Prelude.{List as AList};
     ghost use Rattle.std.specs.Coded.{codes};
-    ghost use Rattle.sc_data.specs.contracts.Term as e;
+    ghost use Rattle.sc_term.specs.contracts.Term as e;
     ghost use Rattle.sc_unify.specs.declared.bound.Binding.{Binding};
     ghost use Rattle.sc_unify.specs.Bindings.{written, AreSolved};
 
-    ghost Value = { List Binding };
+    ghost Value = { AList Binding };
 
     ghost coded = { Prim.hlevel (codes, e.the_row.coded) };
 
@@ -38,10 +36,10 @@ impl Model for Subst {
     ghost invariant = { λ s. AreSolved s.entries };
 }
 
-fn copy_bindings(alloc: Global, bound: &[Bound]) -> Mem<Items<Binding>>
+fn copy_bindings(alloc: Global, bound: &[Bound]) -> Mem<List<Binding>>
     ensures { IfOk result (λ r. r ≡ bindings bound.now) }
 {
-    let mut entries = Items::new(alloc);
+    let mut entries = List::new(alloc);
     for one in bound {
         entries.push(Binding {
             variable: one.variable,
@@ -89,7 +87,7 @@ impl Subst {
         ensures limits { IfOk result (λ made. IsSome made ↔ IsWithinLimits (clause_under (substitution self.now) c.now)) }
     {
         let bound = borrow_bindings(alloc, self.entries.as_slice())?;
-        match spend_literals(bound.as_slice(), c.literals.as_slice(), WEIGHT) {
+        match spend_literals(bound.as_slice(), c.literals.as_slice(), MAX_WEIGHT) {
             Some(_) => Ok(Some(write_clause(alloc, bound.as_slice(), c)?)),
             None => Ok(None),
         }

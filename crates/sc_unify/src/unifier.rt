@@ -1,16 +1,14 @@
 //! Most general unifiers.
 
 ghost use Rattle.std.specs.Prelude.{◌≡◌, ◌↔◌, ◌∷◌, [], MatchOption, IfOk};
-ghost use Rattle.sc_data.specs.Substitution.{IsMostGeneralUnifier, Unify};
+ghost use Rattle.sc_term.specs.Substitution.{IsMostGeneralUnifier, Unify};
 ghost use Rattle.sc_unify.specs.Equations.{equations, HasNoSolution, IsMostGeneralSolution};
 ghost use Rattle.sc_unify.specs.Unifiers.{substitution, EquatesAtoms, EquatesPairs, HasNoUnifier};
 
 use crate::equation::{Equation, equate};
 use crate::solve::solve;
 use crate::substitution::Subst;
-use sc_data::{Literal, Pair};
-use sc_term::Mem;
-use sqlite_items::Items;
+use sc_term::{List, Literal, Mem, Pair};
 use std::alloc::Global;
 
 /// Adds the equations that make the two atoms equal, where their predicates and numbers of arguments are the same.
@@ -50,7 +48,7 @@ fn solution(alloc: Global, todo: Vec<Equation>) -> Mem<Option<Subst>>
 }
 
 /// A most general unifier of all pairs at once, or None where they have no unifier.
-pub fn unify_all(alloc: Global, pairs: &Items<Pair>) -> Mem<Option<Subst>>
+pub fn unify_all(alloc: Global, pairs: &List<Pair>) -> Mem<Option<Subst>>
     ensures { IfOk result (λ found. MatchOption found (¬ Unify pairs.now) (λ s. IsMostGeneralUnifier pairs.now (substitution s))) }
 {
     match equate_pairs(alloc, pairs.as_slice())? {

@@ -1,14 +1,12 @@
 //! Writing out what the bindings make.
 
 ghost use Rattle.std.specs.Prelude.{◌≡◌, map, IfOk};
-ghost use Rattle.sc_data.specs.Term.{term_under};
-ghost use Rattle.sc_data.specs.Substitution.{literal_under, clause_under};
+ghost use Rattle.sc_term.specs.Term.{term_under};
+ghost use Rattle.sc_term.specs.Substitution.{literal_under, clause_under};
 ghost use Rattle.sc_unify.specs.Bindings.{bindings, AreSolved, finished};
 
 use crate::bound::{Bound, walk};
-use sc_data::{Clause, Literal, Term};
-use sc_term::Mem;
-use sqlite_items::Items;
+use sc_term::{Clause, List, Literal, Mem, Term};
 use std::alloc::Global;
 
 #[cycle(writing)]
@@ -26,11 +24,11 @@ pub fn write_term<'a>(alloc: Global, bound: &[Bound<'a>], term: &'a Term) -> Mem
 }
 
 #[cycle(writing)]
-fn write_terms<'a>(alloc: Global, bound: &[Bound<'a>], terms: &'a [Term]) -> Mem<Items<Term>>
+fn write_terms<'a>(alloc: Global, bound: &[Bound<'a>], terms: &'a [Term]) -> Mem<List<Term>>
     requires { AreSolved (bindings bound.now) }
     ensures { IfOk result (λ r. r ≡ map (term_under (finished (bindings bound.now))) terms.now) }
 {
-    let mut made = Items::new(alloc);
+    let mut made = List::new(alloc);
     for term in terms {
         made.push(write_term(alloc, bound, term)?)?;
     }
@@ -41,11 +39,11 @@ fn write_literals<'a>(
     alloc: Global,
     bound: &[Bound<'a>],
     literals: &'a [Literal],
-) -> Mem<Items<Literal>>
+) -> Mem<List<Literal>>
     requires { AreSolved (bindings bound.now) }
     ensures { IfOk result (λ r. r ≡ map (literal_under (finished (bindings bound.now))) literals.now) }
 {
-    let mut made = Items::new(alloc);
+    let mut made = List::new(alloc);
     for literal in literals {
         made.push(Literal {
             positive: literal.positive,

@@ -1,12 +1,12 @@
 -- The marks of lines, one after another.
 use Rattle.std.proofs.Common.{◌≡◌, ◌∙◌, sym, subst, ℕ, zero, suc, ◌+◌, List, ◌∷◌, [], ◌++◌, length, inl, inr, slice_get, Some, arith}
-use Rattle.sc_data.specs.declared.Line.{Line}
-use Rattle.sc_data.specs.Numbering.{numbered}
+use Rattle.sc_term.specs.declared.Line.{Line}
+use Rattle.sc_term.specs.Numbering.{numbered}
 use Rattle.sc_steps.proofs.LineLaws.{in_front_or_end}
-use Rattle.sc_rules.proofs.NumberLaws.{numbered-suc}
+use Rattle.sc_core_rules.proofs.NumberLaws.{numbered-suc}
 use Rattle.sc_interp.specs.declared.plain.VersionName.{VersionName}
 use Rattle.sc_interp.specs.Versions.{ClaimedStructure}
-use Rattle.sc_run_written.specs.declared.run.MarkRow.{MarkRow}
+use Rattle.sc_text_run_rules.specs.declared.run.MarkRow.{MarkRow}
 use Rattle.sc_world.specs.Recorded.{IsMarkOf, AreMarks}
 
 module _ (name : VersionName) (v : ClaimedStructure) (lines : List Line) where

@@ -3,27 +3,27 @@ use Rattle.std.proofs.Common.{◌≡◌, ◌∙◌, sym, ap, subst, refl, ℕ, z
 use Rattle.std.specs.Prelude.{◌≢◌}
 use Rattle.std.specs.List.{AllZip}
 use Rattle.std.proofs.lemmas.List.Elements.{All-nil, All-cons}
-use Rattle.sc_data.specs.declared.Clause.{Clause}
-use Rattle.sc_data.specs.declared.Line.{Line}
+use Rattle.sc_term.specs.declared.Clause.{Clause}
+use Rattle.sc_term.specs.declared.Line.{Line}
 use Rattle.sc_steps.specs.Splice.{IsSplice}
 use Rattle.sc_steps.proofs.SpliceIsOne.{splice_is_one}
-use Rattle.sc_reading.specs.Problem.{Stated}
-use Rattle.sc_reading.specs.WellFormed.{IsProblem}
+use Rattle.sc_input_rules.specs.Problem.{Stated}
+use Rattle.sc_input_rules.specs.WellFormed.{IsProblem}
 use Rattle.sc_interp.specs.declared.plain.Truth.{Truth}
 use Rattle.sc_interp.specs.declared.plain.Truth.TheVariants.{True, False, Wide}
 use Rattle.sc_interp.specs.declared.plain.VersionName.{VersionName}
 use Rattle.sc_interp.specs.Structure.{Structure}
 use Rattle.sc_interp.specs.Versions.{ClaimedStructure, opening}
 use Rattle.sc_interp.specs.Marks.{IsMark}
-use Rattle.sc_rules.specs.declared.row.GivenRow.{GivenRow}
-use Rattle.sc_rules.specs.Selection.{Seen, opening_name, IsGuide}
-use Rattle.sc_rules.specs.Turn.{Run}
-use Rattle.sc_rules.specs.Run.{IsRun, looks_of}
-use Rattle.sc_rules.proofs.RunLaws.{run_is_one}
-use Rattle.sc_rules.proofs.NumberLaws.{numbered-suc}
-use Rattle.sc_run_written.specs.declared.run.MarkRow.{MarkRow}
-use Rattle.sc_run_written.specs.RunValue.{VersionValue, RunValue}
-use Rattle.sc_world.specs.Recorded.{IsTold, IsLastGuide, IsMarkOf, AreMarks, TellsProof, TellsEnd, no_version, IsRecord}
+use Rattle.sc_core_rules.specs.declared.row.GivenRow.{GivenRow}
+use Rattle.sc_core_rules.specs.Selection.{Seen, opening_name, IsGuide}
+use Rattle.sc_core_rules.specs.Turn.{Run}
+use Rattle.sc_core_rules.specs.Run.{IsRun, looks_of}
+use Rattle.sc_core_rules.proofs.RunLaws.{run_is_one}
+use Rattle.sc_core_rules.proofs.NumberLaws.{numbered-suc}
+use Rattle.sc_text_run_rules.specs.declared.run.MarkRow.{MarkRow}
+use Rattle.sc_text_run_rules.specs.RunValue.{VersionValue, RunValue}
+use Rattle.sc_world.specs.Recorded.{IsTold, IsMarkOf, AreMarks, TellsProof, TellsEnd, no_version, IsRecord}
 use Rattle.sc_world.specs.Underway.{looks_at_none}
 use Rattle.sc_world.proofs.RunLaws.{looks_are_none, one_look_more, stays_ended}
 
@@ -106,15 +106,7 @@ module _ (name : VersionName) (v : ClaimedStructure) where
         subst (λ (m : ℕ). IsMarkOf name v m line row) at (h.each (suc k) line row (numbered-suc lines k ∙ e) (numbered-suc rows k ∙ f)),
   )
 
--- the guide after looks at no version is the opening version
-last_is_one : {X : Type 0} (xs ys : List X) (x y : X) → xs ++ x ∷ [] ≡ ys ++ y ∷ [] → x ≡ y
-last_is_one [] [] x y e = cc
-last_is_one [] (b ∷ []) x y e = cc
-last_is_one [] (b ∷ c ∷ ys) x y e = cc
-last_is_one (a ∷ []) [] x y e = cc
-last_is_one (a ∷ c ∷ xs) [] x y e = cc
-last_is_one (a ∷ xs) (b ∷ ys) x y e = let rest : xs ++ x ∷ [] ≡ ys ++ y ∷ [] = cc in last_is_one xs ys x y rest
-
+-- the guide of lists without a version is the opening version
 guide_is_opening : (problem : Stated) (name : VersionName) (v : ClaimedStructure) → IsGuide problem no_version name v → (name ≡ opening_name) × (v ≡ opening problem.symbols)
 guide_is_opening problem name v (inl h) = h.1
 guide_is_opening problem name v (inr h) = absurd (h.0 (All-cons (λ (versions : List ClaimedStructure). versions ≡ []) [] [] refl (All-nil (λ (versions : List ClaimedStructure). versions ≡ []))))
@@ -141,11 +133,10 @@ module _ (problem : Stated) where
     has_ended : h.tells.run.ended ≢ None
     has_ended none = let bad : Some text.outcome ≡ None = sym h.tells.outcome ∙ none in cc
 
-    opening_marks : (name : VersionName) (v : ClaimedStructure) → IsLastGuide problem (looks_of text.given no_version) name v → AreMarks name v text.proof text.marks
+    opening_marks : (name : VersionName) (v : ClaimedStructure) → IsGuide problem no_version name v → AreMarks name v text.proof text.marks
         → AreMarks opening_name (opening problem.symbols) text.proof text.marks
-    opening_marks name v last marks =
-        let none : last.last ≡ no_version = last_is_one last.earlier (looks_at_none text.given) last.last no_version (sym last.is_last ∙ looks_in) in
-        let guide = guide_is_opening problem name v (subst (λ (look : Seen). IsGuide problem look name v) none last.guides) in
+    opening_marks name v guides marks =
+        let guide = guide_is_opening problem name v guides in
         subst (λ (w : ClaimedStructure). AreMarks opening_name w text.proof text.marks) guide.1
         (subst (λ (m : VersionName). AreMarks m v text.proof text.marks) guide.0 marks)
 
@@ -158,8 +149,8 @@ module _ (problem : Stated) where
         let both : Some text.outcome ≡ Some other.outcome = sym h.tells.outcome ∙ ap (λ (run : Run). run.ended) same_run ∙ k.tells.outcome in
         cc
 
-    module _ (a : TellsProof problem (looks_of text.given no_version) h.tells.run text.proof text.marks)
-        (b : TellsProof problem (looks_of other.given no_version) k.tells.run other.proof other.marks) where
+    module _ (a : TellsProof problem no_version h.tells.run text.proof text.marks)
+        (b : TellsProof problem no_version k.tells.run other.proof other.marks) where
       same_goal : a.goal ≡ b.goal
       same_goal = let both : Some a.goal ≡ Some b.goal = sym a.found ∙ ap (λ (run : Run). run.goal) same_run ∙ b.found in cc
 
@@ -177,8 +168,8 @@ module _ (problem : Stated) where
           (subst (λ (lines : List Line). AreMarks opening_name (opening problem.symbols) lines text.marks) same_proof (opening_marks text h a.name a.guide a.guides a.marks)))
           (from_marks opening_name (opening problem.symbols) other.proof other.marks (opening_marks other k b.name b.guide b.guides b.marks))
 
-    same_end : TellsEnd problem (looks_of text.given no_version) h.tells.run text.outcome text.proof text.marks
-        → TellsEnd problem (looks_of other.given no_version) k.tells.run other.outcome other.proof other.marks → (text.proof ≡ other.proof) × (text.marks ≡ other.marks)
+    same_end : TellsEnd problem no_version h.tells.run text.outcome text.proof text.marks
+        → TellsEnd problem no_version k.tells.run other.outcome other.proof other.marks → (text.proof ≡ other.proof) × (text.marks ≡ other.marks)
     same_end (inl a) (inl b) = (same_proof a.1 b.1, same_marks a.1 b.1)
     same_end (inl a) (inr b) = absurd (b.0 (sym same_outcome ∙ a.0))
     same_end (inr a) (inl b) = absurd (a.0 (same_outcome ∙ b.0))

@@ -1,22 +1,23 @@
 -- Runs over looks at no version: from the start, by each turn, to the end.
-use Rattle.std.proofs.Common.{◌≡◌, ◌∙◌, sym, ap, subst, refl, ℕ, zero, suc, ◌+◌, ◌-◌, ◌<◌, inl, inr, List, [], ◌∷◌, ◌++◌, length, map, take, Option, Some, None, arith}
+use Rattle.std.proofs.Common.{◌≡◌, ◌∙◌, sym, ap, subst, refl, ℕ, zero, suc, ◌+◌, ◌-◌, ◌<◌, inl, inr, List, [], ◌∷◌, ◌++◌, length, map, get_or, take, Option, Some, None, arith}
 use Rattle.std.specs.Prelude.{◌≢◌, IsSome}
-use Rattle.std.specs.List.{AllByRecursion}
+use Rattle.std.specs.List.{AllZip, AllByRecursion}
 use Rattle.std.proofs.lemmas.List.{length-append, map-append}
 use Rattle.std.proofs.lemmas.List.Elements.{All-nil, All-cons}
-use Rattle.sc_data.proofs.SubstitutionLaws.{all_join}
-use Rattle.sc_reading.specs.Problem.{Stated}
+use Rattle.sc_term.proofs.SubstitutionLaws.{all_join}
+use Rattle.sc_input_rules.specs.Problem.{Stated}
 use Rattle.sc_interp.specs.Versions.{ClaimedStructure, opening}
-use Rattle.sc_rules.specs.declared.row.GivenRow.{GivenRow}
-use Rattle.sc_rules.specs.declared.row.Outcome.{Outcome}
-use Rattle.sc_rules.specs.declared.row.Outcome.TheVariants as outcome
-use Rattle.sc_rules.specs.Book.{Book}
-use Rattle.sc_rules.specs.Start.{Starts}
-use Rattle.sc_rules.specs.Selection.{Seen, opening_name}
-use Rattle.sc_rules.specs.WorkList.{Finish, Done, Found, TooMany}
-use Rattle.sc_rules.specs.Turn.{Run, Turns, Infer, outcome_of, with_end}
-use Rattle.sc_rules.specs.Run.{Goes, GoesOver, started, IsRun, prefixes, looks_after, looks_of}
-use Rattle.sc_world.specs.Recorded.{no_version, IsLastGuide}
+use Rattle.sc_core_rules.specs.declared.row.GivenRow.{GivenRow}
+use Rattle.sc_core_rules.specs.declared.row.Outcome.{Outcome}
+use Rattle.sc_core_rules.specs.declared.row.Outcome.TheVariants as outcome
+use Rattle.sc_core_rules.specs.Book.{Book}
+use Rattle.sc_core_rules.specs.Start.{Starts}
+use Rattle.sc_core_rules.specs.Selection.{Seen, opening_name, IsGuide}
+use Rattle.sc_core_rules.specs.WorkList.{Finish, Done, Found, TooMany}
+use Rattle.sc_core_rules.specs.Turn.{Run, Turns, Infer, outcome_of, with_end}
+use Rattle.sc_core_rules.specs.Run.{IsPrefixOf, Grow, Goes, GoesOver, started, IsRun, prefixes, looks_after, looks_of}
+use Rattle.sc_core_laws.specs.TrueRows.{IsFrontOf}
+use Rattle.sc_world.specs.Recorded.{no_version}
 use Rattle.sc_world.specs.Underway.{looks_at_none, IsUnderway, turns_left}
 
 abbrev no_list : List ClaimedStructure
@@ -167,11 +168,29 @@ module _ (problem : Stated) where
 
   -- ---- the end
 
-  -- the guide after looks at no version is the opening version
-  pub opening_guides : (looks : List Seen) (rows : List GivenRow) → looks ≡ looks_at_none rows ++ no_version ∷ [] → IsLastGuide problem looks opening_name (opening problem.symbols)
-  opening_guides looks rows e = record {
-    earlier = looks_at_none rows;
-    last = no_version;
-    is_last = e;
-    guides = inl (All-cons (λ (versions : List ClaimedStructure). versions ≡ []) [] [] refl (All-nil (λ (versions : List ClaimedStructure). versions ≡ [])), (refl, refl));
-  }
+  -- the guide of lists without a version is the opening version
+  pub opening_guides : IsGuide problem no_version opening_name (opening problem.symbols)
+  opening_guides = inl (All-cons (λ (versions : List ClaimedStructure). versions ≡ []) [] [] refl (All-nil (λ (versions : List ClaimedStructure). versions ≡ [])), (refl, refl))
+
+-- ---- looks at no version are fronts of one another
+
+abbrev pub AreNone : List Seen → Type 0
+AreNone looks = AllByRecursion (λ look. look ≡ no_version) looks
+
+pub none_each : (rows : List GivenRow) → AreNone (looks_at_none rows ++ no_version ∷ [])
+none_each [] = (refl, tt)
+none_each (row ∷ rows) = (refl, none_each rows)
+
+none_at : (looks : List Seen) (d : Seen) (k : ℕ) → AreNone looks → k < length looks → get_or looks k d ≡ no_version
+none_at [] d k h less = absurd (omega (arith, less))
+none_at (look ∷ looks) d zero h less = h.0
+none_at (look ∷ looks) d (suc k) h less = none_at looks d k h.1 (omega (arith, less))
+
+pub none_grow : (looks : List Seen) → AreNone looks → Grow looks
+none_grow looks h i j d low within =
+    subst (λ (later : Seen). AllZip IsPrefixOf (get_or looks i d) later) (sym (none_at looks d j h within))
+    (subst (λ (earlier : Seen). AllZip IsPrefixOf earlier no_version) (sym (none_at looks d i h (omega (arith, low, within)))) (([], refl), tt))
+
+pub none_fronts : (looks : List Seen) → AreNone looks → AllByRecursion (IsFrontOf no_version) looks
+none_fronts [] h = tt
+none_fronts (look ∷ looks) h = (subst (IsFrontOf no_version) (sym h.0) (([], refl), tt), none_fronts looks h.1)

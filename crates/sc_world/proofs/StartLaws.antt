@@ -1,10 +1,10 @@
 -- The prover after the start of a run, and after a turn.
 use Rattle.std.proofs.Common.{◌≡◌, sym, ap, subst, ℕ, ◌<◌, length, Option, None, true}
-use Rattle.sc_reading.specs.Problem.{Stated}
-use Rattle.sc_rules.specs.Book.{Book}
-use Rattle.sc_rules.specs.Start.{Starts}
-use Rattle.sc_rules.specs.Selection.{Seen}
-use Rattle.sc_rules.specs.Turn.{Turns}
+use Rattle.sc_input_rules.specs.Problem.{Stated}
+use Rattle.sc_core_rules.specs.Book.{Book}
+use Rattle.sc_core_rules.specs.Start.{Starts}
+use Rattle.sc_core_rules.specs.Selection.{Seen}
+use Rattle.sc_core_rules.specs.Turn.{Turns}
 use Rattle.sc_core.specs.State.{ProverState, at_start}
 use Rattle.sc_world.specs.Recorded.{no_version}
 use Rattle.sc_world.specs.Underway.{IsUnderway, turns_left}

@@ -1,29 +1,30 @@
 -- When the text of a run tells a run of the given-clause machine.
 use Rattle.std.specs.Prelude.{◌≡◌, ◌⊎◌, ℕ, List, [], ◌∷◌, ◌++◌, All, Some, length, map}
 use Rattle.std.specs.List.{AllZip, AllByRecursion}
-use Rattle.sc_data.specs.declared.Line.{Line}
-use Rattle.sc_data.specs.Numbering.{numbered}
-use Rattle.sc_data.specs.Proof.{IsProof}
-use Rattle.sc_data.specs.Refuted.{IsRefuted}
+use Rattle.sc_term.specs.declared.Line.{Line}
+use Rattle.sc_term.specs.Numbering.{numbered}
+use Rattle.sc_term.specs.Proof.{IsProof}
+use Rattle.sc_term.specs.Refuted.{IsRefuted}
 use Rattle.sc_steps.specs.Splice.{IsSplice}
-use Rattle.sc_reading.specs.Problem.{Stated}
+use Rattle.sc_input_rules.specs.Problem.{Stated}
 use Rattle.sc_interp.specs.declared.plain.Claim.{Claim}
 use Rattle.sc_interp.specs.declared.plain.VersionName.{VersionName}
 use Rattle.sc_interp.specs.Structure.{AreTablesOf}
 use Rattle.sc_interp.specs.Versions.{ClaimedStructure, IsVersion}
 use Rattle.sc_interp.specs.Marks.{IsMark}
-use Rattle.sc_rules.specs.Order.{Where}
-use Rattle.sc_rules.specs.declared.row.GivenRow.{GivenRow}
-use Rattle.sc_rules.specs.declared.row.KeptRow.{KeptRow}
-use Rattle.sc_rules.specs.declared.row.Outcome.{Outcome}
-use Rattle.sc_rules.specs.declared.row.Outcome.TheVariants.{Proof}
-use Rattle.sc_rules.specs.Selection.{Seen, IsGuide, ratio}
-use Rattle.sc_rules.specs.Turn.{Run}
-use Rattle.sc_rules.specs.Run.{IsRun, looks_of}
-use Rattle.sc_fairness.specs.LeavesInTime.{WasPut, HasTurn, WasGivenBy, IsDeletedBy, last_turn}
-use Rattle.sc_run_written.specs.declared.run.FinderEnd.TheVariants.{Done}
-use Rattle.sc_run_written.specs.declared.run.MarkRow.{MarkRow}
-use Rattle.sc_run_written.specs.RunValue.{VersionValue, RunValue, entries_of}
+use Rattle.sc_core_rules.specs.Order.{Where}
+use Rattle.sc_core_rules.specs.declared.row.GivenRow.{GivenRow}
+use Rattle.sc_core_rules.specs.declared.row.KeptRow.{KeptRow}
+use Rattle.sc_core_rules.specs.declared.row.Outcome.{Outcome}
+use Rattle.sc_core_rules.specs.declared.row.Outcome.TheVariants.{Proof}
+use Rattle.sc_core_rules.specs.Selection.{Seen, IsGuide, ratio}
+use Rattle.sc_core_rules.specs.Turn.{Run}
+use Rattle.sc_core_rules.specs.Run.{IsRun, Grow, looks_of}
+use Rattle.sc_core_laws.specs.TrueRows.{IsTrueRow}
+use Rattle.sc_core_laws.specs.LeavesInTime.{WasPut, HasTurn, WasGivenBy, IsDeletedBy, last_turn}
+use Rattle.sc_text_run_rules.specs.declared.run.FinderEnd.TheVariants.{Done}
+use Rattle.sc_text_run_rules.specs.declared.run.MarkRow.{MarkRow}
+use Rattle.sc_text_run_rules.specs.RunValue.{VersionValue, RunValue, entries_of}
 
 -- ---- versions
 
@@ -39,13 +40,6 @@ pub record IsTold (problem : Stated) (rows : VersionValue) (v : ClaimedStructure
 
 -- ---- the proof and its marks
 
--- v is the guide after the last of the looks, and has this name
-pub record IsLastGuide (problem : Stated) (looks : List Seen) (name : VersionName) (v : ClaimedStructure) : Type 0 where
-  pub earlier : List Seen
-  pub last : Seen
-  pub is_last : looks ≡ earlier ++ last ∷ []
-  pub guides : IsGuide problem last name v
-
 -- the row has the number of the line, the name of the version, and the mark of the line's clause in that
 pub record IsMarkOf (name : VersionName) (v : ClaimedStructure) (n : ℕ) (line : Line) (row : MarkRow) : Type 0 where
   pub number : row.line ≡ n
@@ -58,8 +52,8 @@ pub record AreMarks (name : VersionName) (v : ClaimedStructure) (lines : List Li
   pub each : (n : ℕ) (line : Line) (row : MarkRow) → numbered lines n ≡ Some line → numbered rows n ≡ Some row → IsMarkOf name v n line row
 
 -- The lines are those put together for the empty clause that the run found. They are a proof, and the input clauses are
--- refuted. Their marks are those in the guide after the last look
-pub record TellsProof (problem : Stated) (looks : List Seen) (run : Run) (lines : List Line) (rows : List MarkRow) : Type 0 where
+-- refuted. Their marks are those in the guide of the printed lists
+pub record TellsProof (problem : Stated) (versions : Seen) (run : Run) (lines : List Line) (rows : List MarkRow) : Type 0 where
   pub goal : ℕ
   pub found : run.goal ≡ Some goal
   pub splice : IsSplice problem.inputs run.book.derived goal lines
@@ -67,7 +61,7 @@ pub record TellsProof (problem : Stated) (looks : List Seen) (run : Run) (lines 
   pub refuted : IsRefuted problem.inputs
   pub name : VersionName
   pub guide : ClaimedStructure
-  pub guides : IsLastGuide problem looks name guide
+  pub guides : IsGuide problem versions name guide
   pub marks : AreMarks name guide lines rows
 
 -- no line and no mark
@@ -76,9 +70,9 @@ pub record TellsNoProof (lines : List Line) (rows : List MarkRow) : Type 0 where
   pub no_mark : rows ≡ []
 
 -- the proof of the run where that is the outcome, and otherwise none
-abbrev pub TellsEnd : Stated → List Seen → Run → Outcome → List Line → List MarkRow → Type 0
-TellsEnd problem looks run outcome lines rows =
-    Where (outcome ≡ Proof) (TellsProof problem looks run lines rows) (TellsNoProof lines rows)
+abbrev pub TellsEnd : Stated → Seen → Run → Outcome → List Line → List MarkRow → Type 0
+TellsEnd problem versions run outcome lines rows =
+    Where (outcome ≡ Proof) (TellsProof problem versions run lines rows) (TellsNoProof lines rows)
 
 -- ---- the run
 
@@ -90,17 +84,20 @@ LeaveInTime problem versions given kept =
 
 -- The text tells the run over the looks at these versions that its given rows tell: its ratio, its rows of given and of
 -- kept clauses, its outcome and, where that is one, its proof. Each given row tells of each finder how many versions were
--- seen. In the run every clause leaves the set of support in time.
+-- seen, which are never fewer than before, and the mark of its clause in the version that it names. In the run every
+-- clause leaves the set of support in time.
 pub record Tells (problem : Stated) (versions : Seen) (text : RunValue) : Type 0 where
   pub run : Run
   pub is_run : IsRun problem (looks_of text.given versions) run
+  pub grow : Grow (looks_of text.given versions)
   pub lists : AllZip (AllZip (IsTold problem)) text.lists versions
   pub ratio : text.ratio ≡ ratio problem
   pub given : text.given ≡ run.given
+  pub true_rows : AllByRecursion (IsTrueRow problem versions run.book) text.given
   pub lengths : AllByRecursion (λ (row : GivenRow). length row.lengths ≡ length versions) text.given
   pub kept : text.kept ≡ run.book.kept
   pub outcome : run.ended ≡ Some text.outcome
-  pub proof : TellsEnd problem (looks_of text.given versions) run text.outcome text.proof text.marks
+  pub proof : TellsEnd problem versions run text.outcome text.proof text.marks
   pub in_time : LeaveInTime problem versions text.given text.kept
 
 -- one finder, of which no version is seen

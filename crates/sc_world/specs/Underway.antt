@@ -1,12 +1,12 @@
 -- A run under way, over looks at which no version is seen.
 use Rattle.std.specs.Prelude.{◌≡◌, ◌≢◌, ◌≤◌, ℕ, ◌+◌, ◌-◌, List, [], ◌∷◌, ◌++◌, Option, None, Some, length, map}
 use Rattle.std.specs.List.{AllByRecursion}
-use Rattle.sc_reading.specs.Problem.{Stated}
-use Rattle.sc_rules.specs.declared.row.GivenRow.{GivenRow}
-use Rattle.sc_rules.specs.declared.row.Outcome.{Outcome}
-use Rattle.sc_rules.specs.Selection.{Seen}
-use Rattle.sc_rules.specs.Turn.{Run}
-use Rattle.sc_rules.specs.Run.{IsRun}
+use Rattle.sc_input_rules.specs.Problem.{Stated}
+use Rattle.sc_core_rules.specs.declared.row.GivenRow.{GivenRow}
+use Rattle.sc_core_rules.specs.declared.row.Outcome.{Outcome}
+use Rattle.sc_core_rules.specs.Selection.{Seen}
+use Rattle.sc_core_rules.specs.Turn.{Run}
+use Rattle.sc_core_rules.specs.Run.{IsRun}
 use Rattle.sc_world.specs.Recorded.{no_version}
 
 -- a look for each of the rows, at no version

@@ -2,9 +2,8 @@
 
 ghost use Rattle.std.specs.Prelude.{◌≡◌, IfOk};
 
-use sc_rules::{GivenRow, KeptRow};
-use sc_term::{Mem, copy};
-use sqlite_items::Items;
+use sc_core_rules::{GivenRow, KeptRow};
+use sc_term::{List, Mem, copy};
 use std::alloc::Global;
 
 fn copy_given(alloc: Global, row: &GivenRow) -> Mem<GivenRow>
@@ -16,7 +15,7 @@ fn copy_given(alloc: Global, row: &GivenRow) -> Mem<GivenRow>
         cause: row.cause,
         name: row.name,
         truth: row.truth,
-        lengths: Items::from_slice(alloc, row.lengths.as_slice())?,
+        lengths: List::from_slice(alloc, row.lengths.as_slice())?,
     })
 }
 
@@ -32,10 +31,10 @@ fn copy_kept(alloc: Global, row: &KeptRow) -> Mem<KeptRow>
 }
 
 /// Rows equal to these, in order.
-pub fn copy_given_rows(alloc: Global, rows: &[GivenRow]) -> Mem<Items<GivenRow>>
+pub fn copy_given_rows(alloc: Global, rows: &[GivenRow]) -> Mem<List<GivenRow>>
     ensures { IfOk result (λ r. r ≡ rows.now) }
 {
-    let mut copies = Items::new(alloc);
+    let mut copies = List::new(alloc);
     for row in rows {
         copies.push(copy_given(alloc, row)?)?;
     }
@@ -43,10 +42,10 @@ pub fn copy_given_rows(alloc: Global, rows: &[GivenRow]) -> Mem<Items<GivenRow>>
 }
 
 /// Rows equal to these, in order.
-pub fn copy_kept_rows(alloc: Global, rows: &[KeptRow]) -> Mem<Items<KeptRow>>
+pub fn copy_kept_rows(alloc: Global, rows: &[KeptRow]) -> Mem<List<KeptRow>>
     ensures { IfOk result (λ r. r ≡ rows.now) }
 {
-    let mut copies = Items::new(alloc);
+    let mut copies = List::new(alloc);
     for row in rows {
         copies.push(copy_kept(alloc, row)?)?;
     }

@@ -8,8 +8,8 @@
 //! clauses, and the marks are those of the lines in the guide, here the opening version; and every clause leaves the set
 //! of support in time.
 //!
-//! It stands on the prover, on the marks of any clause (`sc_marks`), on the law of `sc_fairness`, and on the value of a
-//! run (`sc_run_written`). Callers may rest on the record alone: a problem has one (`proofs/OneRecord`). Want of memory is
+//! It stands on the prover, on the marks of any clause (`sc_interp`), on the law of `sc_core_laws`, and on the value of a
+//! run (`sc_text_run_rules`). Callers may rest on the record alone: a problem has one (`proofs/OneRecord`). Want of memory is
 //! the one other answer; a proof of 2^32 lines or more counts as that.
 #![tactic(auto)]
 

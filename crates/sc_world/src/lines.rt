@@ -1,15 +1,12 @@
 //! The lines of a proof and their marks.
 
-ghost use Rattle.std.specs.Prelude.{◌≡◌, ◌+◌, IfOk};
-ghost use Rattle.sc_rules.specs.Selection.{opening_name};
+ghost use Rattle.std.specs.Prelude.{◌≡◌, ◌≤◌, ◌+◌, IfOk, OnErr};
+ghost use Rattle.sc_core_rules.specs.Selection.{opening_name};
 ghost use Rattle.sc_world.specs.Recorded.{IsMarkOf, AreMarks};
 
-use sc_data::Line;
-use sc_interp::{Version, VersionName};
-use sc_marks::mark_of;
-use sc_run_written::MarkRow;
-use sc_term::{Mem, OutOfMemory};
-use sqlite_items::Items;
+use sc_interp::{Version, VersionName, mark_of};
+use sc_term::{Line, List, Mem, OutOfMemory};
+use sc_text_run_rules::MarkRow;
 use std::alloc::Global;
 
 /// The name of the opening version.
@@ -20,7 +17,8 @@ const OPENING: VersionName = VersionName {
 
 /// The number, from 1, of the line at this index, from 0. No list of 2^32 lines fits into memory.
 fn line_number(index: usize) -> Mem<u32>
-    ensures { IfOk result (λ n. n ≡ index + 1) }
+    ensures value { IfOk result (λ n. n ≡ index + 1) }
+    ensures refused { OnErr result (4294967295 ≤ index) }
 {
     if index >= u32::MAX as usize {
         return Err(OutOfMemory);
@@ -41,10 +39,10 @@ fn mark_row(alloc: Global, opening: &Version, number: u32, line: &Line) -> Mem<M
 }
 
 /// The marks of the lines in the opening version.
-pub fn mark_rows(alloc: Global, opening: &Version, lines: &[Line]) -> Mem<Items<MarkRow>>
+pub fn mark_rows(alloc: Global, opening: &Version, lines: &[Line]) -> Mem<List<MarkRow>>
     ensures { IfOk result (AreMarks opening_name opening.now lines.now) }
 {
-    let mut rows = Items::new(alloc);
+    let mut rows = List::new(alloc);
     for (i, line) in lines.iter().enumerate() {
         let number = line_number(i)?;
         rows.push(mark_row(alloc, opening, number, line)?)?;

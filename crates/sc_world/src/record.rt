@@ -1,10 +1,9 @@
 //! The record of a run.
 
 ghost use Rattle.std.specs.Prelude.{◌≡◌, [], ◌∷◌, Some, true, IfOk};
-ghost use Rattle.sc_rules.specs.Selection as selection;
-ghost use Rattle.sc_rules.specs.Run.{looks_of};
-ghost use Rattle.sc_run_written.specs.RunValue.{run_value};
-ghost use Rattle.sc_run_written.specs.declared.run.FinderEnd.TheVariants as ends;
+ghost use Rattle.sc_core_rules.specs.Selection as selection;
+ghost use Rattle.sc_text_run_rules.specs.RunValue.{run_value};
+ghost use Rattle.sc_text_run_rules.specs.declared.run.FinderEnd.TheVariants as ends;
 ghost use Rattle.sc_world.specs.Recorded.{no_version, IsRecord, TellsEnd};
 ghost use Rattle.sc_world.specs.Underway.{IsUnderway};
 
@@ -12,12 +11,10 @@ use crate::copies::{copy_given_rows, copy_kept_rows};
 use crate::lines::mark_rows;
 use crate::running::{run_to_its_end, start};
 use sc_core::Prover;
-use sc_data::Line;
-use sc_problem::Problem;
-use sc_rules::Outcome;
-use sc_run_written::{FinderEnd, MarkRow, RunText, VersionText};
-use sc_term::Mem;
-use sqlite_items::Items;
+use sc_core_rules::Outcome;
+use sc_input_rules::Problem;
+use sc_term::{Line, List, Mem};
+use sc_text_run_rules::{FinderEnd, MarkRow, RunText, VersionText};
 use std::alloc::Global;
 
 /// A run that has ended, as it is written.
@@ -35,19 +32,19 @@ fn ratio(problem: &Problem) -> u32
 }
 
 /// The list of one finder, which published nothing.
-fn one_list(alloc: Global) -> Mem<Items<Items<VersionText>>>
+fn one_list(alloc: Global) -> Mem<List<List<VersionText>>>
     ensures { IfOk result (λ lists. lists ≡ [] ∷ []) }
 {
-    let mut lists = Items::new(alloc);
-    lists.push(Items::new(alloc))?;
+    let mut lists = List::new(alloc);
+    lists.push(List::new(alloc))?;
     Ok(lists)
 }
 
 /// The end of one finder that had nothing to work.
-fn one_end(alloc: Global) -> Mem<Items<FinderEnd>>
+fn one_end(alloc: Global) -> Mem<List<FinderEnd>>
     ensures { IfOk result (λ all. all ≡ ends.Done ∷ []) }
 {
-    let mut all = Items::new(alloc);
+    let mut all = List::new(alloc);
     all.push(FinderEnd::Done)?;
     Ok(all)
 }
@@ -57,11 +54,11 @@ fn proof_and_marks(
     alloc: Global,
     prover: &Prover,
     outcome: Outcome,
-) -> Mem<(Items<Line>, Items<MarkRow>)>
+) -> Mem<(List<Line>, List<MarkRow>)>
     requires whole { prover.now.whole ≡ true }
     requires ended { prover.now.run.ended ≡ Some outcome }
     requires underway { IsUnderway prover.now.problem prover.now.run }
-    ensures { IfOk result (λ told. TellsEnd prover.now.problem (looks_of prover.now.run.given no_version) prover.now.run outcome told.0 told.1) }
+    ensures { IfOk result (λ told. TellsEnd prover.now.problem no_version prover.now.run outcome told.0 told.1) }
 {
     match outcome {
         Outcome::Proof => {
@@ -69,10 +66,10 @@ fn proof_and_marks(
             let marks = mark_rows(alloc, prover.guide(), lines.as_slice())?;
             Ok((lines, marks))
         }
-        Outcome::SosEmpty => Ok((Items::new(alloc), Items::new(alloc))),
-        Outcome::GivenLimit(_) => Ok((Items::new(alloc), Items::new(alloc))),
-        Outcome::KeptLimit(_) => Ok((Items::new(alloc), Items::new(alloc))),
-        Outcome::WorkLimit(_) => Ok((Items::new(alloc), Items::new(alloc))),
+        Outcome::SosEmpty => Ok((List::new(alloc), List::new(alloc))),
+        Outcome::GivenLimit(_) => Ok((List::new(alloc), List::new(alloc))),
+        Outcome::KeptLimit(_) => Ok((List::new(alloc), List::new(alloc))),
+        Outcome::WorkLimit(_) => Ok((List::new(alloc), List::new(alloc))),
     }
 }
 
@@ -82,7 +79,7 @@ fn rows(
     problem: &Problem,
     prover: &Prover,
     outcome: Outcome,
-    told: (Items<Line>, Items<MarkRow>),
+    told: (List<Line>, List<MarkRow>),
 ) -> Mem<RunText>
     ensures ratio { IfOk result (λ run. run.ratio ≡ selection.ratio problem.now) }
     ensures lists { IfOk result (λ run. run.lists ≡ [] ∷ []) }
@@ -114,6 +111,7 @@ fn record(alloc: Global, problem: &Problem, prover: &Prover, outcome: Outcome) -
     requires underway { IsUnderway prover.now.problem prover.now.run }
     ensures { IfOk result (λ run. IsRecord problem.now (run_value run)) }
 {
+    prover.keeps();
     let told = proof_and_marks(alloc, prover, outcome)?;
     let run = rows(alloc, problem, prover, outcome, told)?;
     Ok(run)

@@ -5,8 +5,8 @@ ghost use Rattle.sc_world.specs.Recorded.{no_version};
 ghost use Rattle.sc_world.specs.Underway.{IsUnderway};
 
 use sc_core::Prover;
-use sc_problem::Problem;
-use sc_rules::Outcome;
+use sc_core_rules::Outcome;
+use sc_input_rules::Problem;
 use sc_term::Mem;
 use std::alloc::Global;
 

@@ -1,7 +1,7 @@
 use Rattle.std.proofs.Common.{sym, subst, List}
-use Rattle.sc_data.specs.declared.Clause.{Clause}
-use Rattle.sc_data.specs.Refuted.{IsRefuted}
-use Rattle.sc_data.specs.Proof.{IsProof}
+use Rattle.sc_term.specs.declared.Clause.{Clause}
+use Rattle.sc_term.specs.Refuted.{IsRefuted}
+use Rattle.sc_term.specs.Proof.{IsProof}
 use Rattle.sc_top.proofs.AnswerLaws.{has_proof}
 use Rattle.sc_top.proofs.judge_lines.Goals as goal
 

@@ -1,4 +1,4 @@
-use Rattle.sc_written.proofs.FewLines.{few_lines}
+use Rattle.sc_text_rules.proofs.FewLines.{few_lines}
 use Rattle.sc_top.proofs.read_input.Goals as goal
 
 pub returns-clause-few : goal.returns-clause-few

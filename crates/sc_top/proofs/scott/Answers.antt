@@ -1,26 +1,28 @@
-use Rattle.sc_top.proofs.ToldLaws.{answered, cut_short, decided, told, read_fault}
+use Rattle.std.specs.Prelude.{IfSome}
+use Rattle.sc_top_words.specs.declared.commands.Command.{Command}
+use Rattle.sc_top.specs.Told.{IsDecisive, IsDecided, IsToldOf}
 use Rattle.sc_top.specs.declared.answer.Answer.TheVariants.{WordsRefused}
+use Rattle.sc_top.proofs.ToldLaws.{answered_words, cut_short_words, of_command}
 use Rattle.sc_top.proofs.scott.Goals as goal
 
 pub returns-in-Some-clause-decided : goal.returns-in-Some-clause-decided
-returns-in-Some-clause-decided g c = λ command decisive asked other.
-    decided c.args.words.now command asked decisive _ _ _ _ _ _ c.judge-answer.result (c.judge-answer.ensures.stands c.args.words.now c.in-Some.ensures.asked) (c.write_answer.ensures.whole other)
+returns-in-Some-clause-decided g c = λ command decisive asked six.
+    of_command c.args.words.now (λ (k : Command). IfSome (g.S.Source.left c.args.source.now) (IsDecided k (g.K.Sink.room c.args.sink.now) (g.K.Sink.taken c.args.sink.now) (g.K.Sink.taken c.alone.new.sink) c.alone.result))
+    c.in-Some.command command c.in-Some.ensures.asked asked
+    (c.alone.ensures.decided (of_command c.args.words.now IsDecisive command c.in-Some.command asked c.in-Some.ensures.asked decisive) six)
 
 pub returns-in-Some-clause-told : goal.returns-in-Some-clause-told
 returns-in-Some-clause-told g c = λ command asked five six seven.
-    told c.args.words.now command asked _ _ _ _ _ _ c.judge-answer.result five seven (c.judge-answer.ensures.stands c.args.words.now c.in-Some.ensures.asked) (c.write_answer.ensures.whole six)
+    of_command c.args.words.now (λ (k : Command). IfSome (g.S.Source.left c.args.source.now) (IsToldOf k (g.K.Sink.room c.args.sink.now) (g.K.Sink.taken c.args.sink.now) (g.K.Sink.taken c.alone.new.sink) c.alone.result))
+    c.in-Some.command command c.in-Some.ensures.asked asked (c.alone.ensures.told five six seven)
 
 pub returns-in-Some-clause-answered : goal.returns-in-Some-clause-answered
-returns-in-Some-clause-answered g c = λ other.
-    answered c.args.words.now _ _ _ _ _ _ c.judge-answer.result (c.judge-answer.ensures.stands c.args.words.now c.in-Some.ensures.asked) (c.write_answer.ensures.whole other)
-
-pub returns-in-Some-clause-read_fault : goal.returns-in-Some-clause-read_fault
-returns-in-Some-clause-read_fault g c =
-    read_fault c.args.words.now _ _ _ _ c.judge-answer.result (c.judge-answer.ensures.stands c.args.words.now c.in-Some.ensures.asked) c.write_answer.ensures.status
+returns-in-Some-clause-answered g c = λ six.
+    answered_words c.in-Some.command _ _ _ c.args.words.now _ _ _ _ c.in-Some.ensures.asked (c.alone.ensures.answered six)
 
 pub returns-in-Some-clause-cut_short : goal.returns-in-Some-clause-cut_short
 returns-in-Some-clause-cut_short g c = λ six.
-    cut_short c.args.words.now _ _ _ _ _ c.judge-answer.result (c.judge-answer.ensures.stands c.args.words.now c.in-Some.ensures.asked) (c.write_answer.ensures.part six)
+    cut_short_words c.in-Some.command _ _ _ c.args.words.now _ _ c.in-Some.ensures.asked (c.alone.ensures.cut_short six)
 
 pub returns-in-None-clause-told : goal.returns-in-None-clause-told
 returns-in-None-clause-told g c = λ command asked five six seven. absurd (c.in-None.ensures.asked command asked)

@@ -1,5 +1,5 @@
 use Rattle.std.proofs.Common.{◌≡◌, ◌∙◌, ap, max, ◌%◌, ◌/◌, ◌-◌, ◌+◌}
-use Rattle.sc_data.specs.Term.{largest}
+use Rattle.sc_term.specs.Term.{largest}
 use Rattle.sc_cells.specs.Listing.{digits}
 use Rattle.sc_cells.proofs.DigitLaws.{greatest_more}
 use Rattle.sc_cells.proofs.digits.greatest_digit.Goals as goal

@@ -1,5 +1,5 @@
 use Rattle.std.proofs.Common.{◌≡◌, ◌++◌, [], ◌∷◌}
-use Rattle.sc_data.specs.Clause.{width}
+use Rattle.sc_term.specs.Clause.{width}
 use Rattle.sc_cells.specs.Listing.{in_turn, instance_with}
 use Rattle.sc_cells.proofs.listing.push_instances.Given as goal
 

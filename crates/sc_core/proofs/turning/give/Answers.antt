@@ -1,4 +1,4 @@
-use Rattle.sc_work.specs.Finish.{finish_of}
+use Rattle.sc_core.specs.Finish.{finish_of}
 use Rattle.sc_core.proofs.InferLaws.{moves}
 use Rattle.sc_core.proofs.TurningLaws.{moved_usable, worked_in}
 use Rattle.sc_core.proofs.turning.give.Goals as goal

@@ -1,6 +1,6 @@
 use Rattle.std.proofs.Common.{◌≢◌, sym, subst}
 use Rattle.std.specs.List.{AllPairs}
-use Rattle.sc_data.specs.declared.Numbered.{Numbered}
+use Rattle.sc_term.specs.declared.Numbered.{Numbered}
 use Rattle.sc_core.proofs.TurningLaws.{front_pairs}
 use Rattle.sc_core.proofs.turning.work_all.Goals as goal
 

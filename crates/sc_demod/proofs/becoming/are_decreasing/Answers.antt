@@ -1,6 +1,6 @@
 use Rattle.std.proofs.Common.{arith}
-use Rattle.sc_data.specs.Term.{term_variables}
-use Rattle.sc_data.proofs.SubstitutionLaws.{all_of}
+use Rattle.sc_term.specs.Term.{term_variables}
+use Rattle.sc_term.proofs.SubstitutionLaws.{all_of}
 use Rattle.sc_demod.specs.Counting.{OccursNoMore}
 use Rattle.sc_demod.proofs.CountLaws.{each_variable}
 use Rattle.sc_demod.proofs.becoming.are_decreasing.Goals as goal

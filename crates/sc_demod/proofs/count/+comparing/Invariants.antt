@@ -1,6 +1,6 @@
 use Rattle.std.proofs.Common.{map, take}
 use Rattle.std.specs.List.{AllByRecursion}
-use Rattle.sc_data.specs.Term.{joined, term_variables}
+use Rattle.sc_term.specs.Term.{joined, term_variables}
 use Rattle.sc_demod.specs.Counting.{OccursNoMore}
 use Rattle.sc_demod.proofs.count.+comparing.Given as goal
 

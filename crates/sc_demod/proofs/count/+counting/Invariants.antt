@@ -1,5 +1,5 @@
 use Rattle.std.proofs.Common.{◌≡◌, ◌-◌, ◌^◌, map, min, take, count_by, nat_eq}
-use Rattle.sc_data.specs.Term.{joined, term_variables}
+use Rattle.sc_term.specs.Term.{joined, term_variables}
 use Rattle.sc_demod.proofs.count.+counting.Given as goal
 
 abbrev pub invariant-occurrences_in-loop-term : goal.invariant-occurrences_in-loop-term

@@ -1,7 +1,7 @@
 use Rattle.std.proofs.Common.{◌≡◌, ◌≢◌, ◌∙◌, ap, List, [], ◌∷◌, get_or, true, Option, Some, None, IfNone}
-use Rattle.sc_data.specs.declared.Term.{Term}
-use Rattle.sc_data.specs.declared.Literal.{Literal}
-use Rattle.sc_data.specs.Refuted.{equation}
+use Rattle.sc_term.specs.declared.Term.{Term}
+use Rattle.sc_term.specs.declared.Literal.{Literal}
+use Rattle.sc_term.specs.Refuted.{equation}
 use Rattle.sc_demod.proofs.equation.sides.Goals as goal
 
 -- where the first literal is no equation, neither is the clause

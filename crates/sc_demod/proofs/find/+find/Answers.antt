@@ -1,8 +1,8 @@
 use Rattle.std.proofs.Common.{sym, subst, MatchOption, arith}
 use Rattle.std.proofs.lemmas.List.Elements.{AllWithin-more, at_read}
-use Rattle.sc_data.specs.declared.Term.{Term}
-use Rattle.sc_data.specs.Term.{term_weight, term_depth}
-use Rattle.sc_data.specs.Path.{IsSubtermAt}
+use Rattle.sc_term.specs.declared.Term.{Term}
+use Rattle.sc_term.specs.Term.{term_weight, term_depth}
+use Rattle.sc_term.specs.Path.{IsSubtermAt}
 use Rattle.sc_term.proofs.Occurrences.{at-most-largest}
 use Rattle.sc_demod.specs.Finding.{IsWithin, FindsNone, Finds}
 use Rattle.sc_demod.proofs.WeightLaws.{one_of_sum, few_terms}

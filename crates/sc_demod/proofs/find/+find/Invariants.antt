@@ -1,6 +1,6 @@
 use Rattle.std.proofs.Common.{◌*◌, ◌+◌, map}
 use Rattle.std.specs.List.{AllWithin}
-use Rattle.sc_data.specs.Term.{term_depth, largest}
+use Rattle.sc_term.specs.Term.{term_depth, largest}
 use Rattle.sc_demod.specs.Finding.{IsWithin, FindsNone}
 use Rattle.sc_demod.proofs.find.+find.Given as goal
 

@@ -1,10 +1,10 @@
 use Rattle.std.proofs.Common.{◌∙◌, sym, ap, subst, List, map, sum, MatchOption, arith}
 use Rattle.std.proofs.lemmas.List.Elements.{AllWithin-more, at_read}
-use Rattle.sc_data.specs.declared.Term.{Term}
-use Rattle.sc_data.specs.declared.Literal.{Literal}
-use Rattle.sc_data.specs.Term.{term_weight}
-use Rattle.sc_data.specs.Clause.{literal_weight}
-use Rattle.sc_data.specs.Path.{IsSubtermAt}
+use Rattle.sc_term.specs.declared.Term.{Term}
+use Rattle.sc_term.specs.declared.Literal.{Literal}
+use Rattle.sc_term.specs.Term.{term_weight}
+use Rattle.sc_term.specs.Clause.{literal_weight}
+use Rattle.sc_term.specs.Path.{IsSubtermAt}
 use Rattle.sc_demod.specs.Finding.{FindsNone, Finds}
 use Rattle.sc_demod.proofs.WeightLaws.{one_of_sum, few_literals}
 use Rattle.sc_demod.proofs.FindLaws.{found_in_literals, none_in_literals}

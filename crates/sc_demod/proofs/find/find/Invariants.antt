@@ -1,6 +1,6 @@
 use Rattle.std.specs.List.{AllWithin}
-use Rattle.sc_data.specs.declared.Literal.{Literal}
-use Rattle.sc_data.specs.Path.{IsSubtermAt}
+use Rattle.sc_term.specs.declared.Literal.{Literal}
+use Rattle.sc_term.specs.Path.{IsSubtermAt}
 use Rattle.sc_demod.specs.Finding.{FindsNone}
 use Rattle.sc_demod.proofs.find.find.Given as goal
 

@@ -1,5 +1,5 @@
 use Rattle.std.specs.List.{AllWithin}
-use Rattle.sc_rules.specs.Rewriting.{Fits}
+use Rattle.sc_core_rules.specs.Rewriting.{Fits}
 use Rattle.sc_demod.proofs.fit.first_fit.Given as goal
 
 abbrev pub invariant-loop-place : goal.invariant-loop-place

@@ -1,6 +1,6 @@
 use Rattle.std.proofs.Common.{subst, IfOk, MatchOption}
-use Rattle.sc_data.specs.declared.Literal.{Literal}
-use Rattle.sc_rules.specs.Paramodulation.{atom_with}
+use Rattle.sc_term.specs.declared.Literal.{Literal}
+use Rattle.sc_core_rules.specs.Paramodulation.{atom_with}
 use Rattle.sc_unify.specs.Matching.{IsMatch, HasNoMatch}
 use Rattle.sc_demod.proofs.fit.match_term.Goals as goal
 

@@ -1,7 +1,7 @@
 use Rattle.std.proofs.Common.{◌∙◌, sym, subst, refl, true≢false, arith}
 use Rattle.std.proofs.lemmas.List.Elements.{AllWithin-more, at_read}
-use Rattle.sc_data.specs.declared.Term.{Term}
-use Rattle.sc_data.specs.Path.{IsSubtermAt}
+use Rattle.sc_term.specs.declared.Term.{Term}
+use Rattle.sc_term.specs.Path.{IsSubtermAt}
 use Rattle.sc_demod.specs.Finding.{IsWithin, FindsSome}
 use Rattle.sc_demod.proofs.RedexLaws.{here_or_not, some_at, none_at_any}
 use Rattle.sc_demod.proofs.redex.+has_redex.Goals as goal

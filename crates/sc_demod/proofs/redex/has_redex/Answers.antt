@@ -1,8 +1,8 @@
 use Rattle.std.proofs.Common.{◌≡◌, ◌∙◌, sym, ap, subst, refl, List, length, get_or, true≢false, arith}
-use Rattle.sc_data.specs.declared.Term.{Term}
-use Rattle.sc_data.specs.declared.Literal.{Literal}
-use Rattle.sc_data.specs.declared.Numbered.{Numbered}
-use Rattle.sc_data.specs.Path.{IsSubtermAt}
+use Rattle.sc_term.specs.declared.Term.{Term}
+use Rattle.sc_term.specs.declared.Literal.{Literal}
+use Rattle.sc_term.specs.declared.Numbered.{Numbered}
+use Rattle.sc_term.specs.Path.{IsSubtermAt}
 use Rattle.sc_demod.specs.Finding.{FindsSome}
 use Rattle.sc_demod.proofs.RedexLaws.{clause_has, clause_has_none}
 use Rattle.sc_demod.proofs.redex.has_redex.Goals as goal

@@ -1,7 +1,7 @@
 use Rattle.std.proofs.Common.{[], ◌∷◌}
 use Rattle.std.specs.List.{AllWithin}
-use Rattle.sc_data.specs.declared.Literal.{Literal}
-use Rattle.sc_data.specs.Path.{IsSubtermAt}
+use Rattle.sc_term.specs.declared.Literal.{Literal}
+use Rattle.sc_term.specs.Path.{IsSubtermAt}
 use Rattle.sc_demod.specs.Finding.{FindsSome}
 use Rattle.sc_demod.proofs.redex.has_redex.Given as goal
 

@@ -1,5 +1,5 @@
 use Rattle.std.proofs.Common.{◌≡◌, ◌∙◌, sym, subst, ◌↔◌, IfSome, IsSome, refl, true≢false}
-use Rattle.sc_data.specs.Clause.{instance, IsWithinLimits}
+use Rattle.sc_term.specs.Clause.{instance, IsWithinLimits}
 use Rattle.sc_demod.proofs.ChangeLaws.{long, too_heavy, result_heavy, is_change}
 use Rattle.sc_demod.proofs.rewriting.change_at.Goals as goal
 

@@ -1,5 +1,5 @@
 use Rattle.std.proofs.Common.{subst, List, IfOk}
-use Rattle.sc_data.specs.declared.Numbered.{Numbered}
+use Rattle.sc_term.specs.declared.Numbered.{Numbered}
 use Rattle.sc_demod.specs.Standing.{KeepsChecking}
 use Rattle.sc_demod.proofs.rewriting.rewrite.Goals as goal
 

@@ -1,7 +1,7 @@
 use Rattle.std.proofs.Common.{◌≡◌, sym, subst, ℕ, suc, ◌+◌, ◌-◌, List, MatchOption, arith}
-use Rattle.sc_data.specs.declared.Line.{Line}
-use Rattle.sc_rules.specs.Order.{ExhaustsWithin, limit, ends, goes}
-use Rattle.sc_rules.specs.Rewriting.{RewritesOnce}
+use Rattle.sc_term.specs.declared.Line.{Line}
+use Rattle.sc_core_rules.specs.Order.{ExhaustsWithin, limit, ends, goes}
+use Rattle.sc_core_rules.specs.Rewriting.{RewritesOnce}
 use Rattle.sc_demod.specs.Rewriting.{IsRewritten}
 use Rattle.sc_demod.proofs.PartLaws.{agrees_with}
 use Rattle.sc_demod.proofs.RewriteSteps.{rewrite_checks}

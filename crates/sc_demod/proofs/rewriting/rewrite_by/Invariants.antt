@@ -1,7 +1,7 @@
 use Rattle.std.proofs.Common.{◌≡◌, ◌-◌, List, Some}
-use Rattle.sc_data.specs.declared.Line.{Line}
-use Rattle.sc_data.specs.Clause.{IsWithinLimits}
-use Rattle.sc_rules.specs.Rewriting.{Rewrites}
+use Rattle.sc_term.specs.declared.Line.{Line}
+use Rattle.sc_term.specs.Clause.{IsWithinLimits}
+use Rattle.sc_core_rules.specs.Rewriting.{Rewrites}
 use Rattle.sc_steps.specs.Derivation.{last_clause}
 use Rattle.sc_demod.specs.Standing.{KeepsChecking}
 use Rattle.sc_demod.proofs.rewriting.rewrite_by.Given as goal

@@ -1,11 +1,11 @@
 use Rattle.std.proofs.Common.{◌≡◌, ◌∙◌, sym, ap, subst, ℕ, ◌+◌, ◌++◌, ◌∷◌, [], List, length, get_or, arith}
-use Rattle.sc_data.specs.declared.Clause.{Clause}
-use Rattle.sc_data.specs.declared.Line.{Line}
-use Rattle.sc_data.specs.declared.Literal.{Literal}
-use Rattle.sc_data.specs.declared.Step.TheVariants.{Resolve}
-use Rattle.sc_data.specs.Numbering.{numbered}
+use Rattle.sc_term.specs.declared.Clause.{Clause}
+use Rattle.sc_term.specs.declared.Line.{Line}
+use Rattle.sc_term.specs.declared.Literal.{Literal}
+use Rattle.sc_term.specs.declared.Step.TheVariants.{Resolve}
+use Rattle.sc_term.specs.Numbering.{numbered}
 use Rattle.sc_steps.proofs.ListLaws.{some_and}
-use Rattle.sc_rules.specs.Derivation.{AreTermsTo, AddsPart}
+use Rattle.sc_core_rules.specs.Derivation.{AreTermsTo, AddsPart}
 use Rattle.sc_demod.specs.Deleting.{IsRemoval}
 use Rattle.sc_demod.proofs.WeightLaws.{few_literals}
 use Rattle.sc_demod.proofs.CutLaws.{terms_of_removal, is_cut, named}
@@ -38,7 +38,7 @@ returns c =
     let cut : Clause = record { literals = c.remove.new.self } in
     let here : l ≡ get_or ls at l = c.index-as_slice-at.is ∙ ap (λ (ls : List Literal). get_or ls at l) c.as_slice.ensures in
     let shows = subst (λ q. AddsPart before c.args.u.now q mid k) c.in_ok-part.ensures c.in_ok-right.ensures.adds in
-    let left : c.in_ok-left.left ≡ length before = c.in_ok-left.ensures.0 in
+    let left : c.in_ok-left.left ≡ length before = c.in_ok-left.ensures.value.0 in
     let copied : c.in_ok-copied.copied ≡ cut = c.in_ok-copied.ensures in
     let line = λ (n : ℕ) (d : Clause). let one : Line = record { step = Resolve n (at + 1) k 1; clause = d } in one in
     let grows : c.add_line.new.lines ≡ mid ++ line (length before) cut ∷ [] = c.in_ok-add_line.ensures.grown ∙ (λ i. mid ++ line (left i) (copied i) ∷ []) in

@@ -2,8 +2,8 @@ use Rattle.std.proofs.Common.{◌<◌, length, subst, MatchOption, arith}
 use Rattle.std.specs.Borrow.{Bor}
 use Rattle.std.proofs.lemmas.List.{length-map}
 use Rattle.std.proofs.lemmas.List.Elements.{AllWithin-more, at_read}
-use Rattle.sc_data.specs.declared.Numbered.{Numbered}
-use Rattle.sc_rules.specs.Simplification.{Removes}
+use Rattle.sc_term.specs.declared.Numbered.{Numbered}
+use Rattle.sc_core_rules.specs.Simplification.{Removes}
 use Rattle.sc_resolve.specs.ByNumber.{seen}
 use Rattle.sc_resolve.proofs.OrderLaws.{seen_or}
 use Rattle.sc_demod.specs.Deleting.{IsRemoval}

@@ -1,5 +1,5 @@
 use Rattle.std.specs.List.{AllWithin}
-use Rattle.sc_rules.specs.Simplification.{Removes}
+use Rattle.sc_core_rules.specs.Simplification.{Removes}
 use Rattle.sc_resolve.specs.ByNumber.{seen}
 use Rattle.sc_demod.proofs.unit.first_removing.Given as goal
 

@@ -1,9 +1,9 @@
 use Rattle.std.proofs.Common.{sym, subst, List}
 use Rattle.std.specs.Borrow.{Bor}
 use Rattle.std.proofs.lemmas.Result.{IfOk-weaker}
-use Rattle.sc_data.specs.declared.Numbered.{Numbered}
-use Rattle.sc_rules.specs.Order.{Exhausts}
-use Rattle.sc_rules.specs.Simplification.{DeletesOnce}
+use Rattle.sc_term.specs.declared.Numbered.{Numbered}
+use Rattle.sc_core_rules.specs.Order.{Exhausts}
+use Rattle.sc_core_rules.specs.Simplification.{DeletesOnce}
 use Rattle.sc_resolve.specs.ByNumber.{AreByNumber, seen}
 use Rattle.sc_demod.specs.Standing.{KeepsChecking}
 use Rattle.sc_demod.proofs.DeletingLaws.{checks_by_number, deletes_by_number, keeps_by_number}

@@ -1,11 +1,11 @@
 use Rattle.std.proofs.Common.{◌≡◌, ◌∙◌, sym, ap, subst, ℕ, ◌+◌, ◌<◌, List, length, get_or, Contains, MatchOption, arith}
 use Rattle.std.proofs.lemmas.List.{get_or_default}
-use Rattle.sc_data.specs.declared.Literal.{Literal}
-use Rattle.sc_data.specs.declared.Numbered.{Numbered}
-use Rattle.sc_data.specs.declared.Term.{Term}
-use Rattle.sc_data.specs.Numbering.{numbered}
+use Rattle.sc_term.specs.declared.Literal.{Literal}
+use Rattle.sc_term.specs.declared.Numbered.{Numbered}
+use Rattle.sc_term.specs.declared.Term.{Term}
+use Rattle.sc_term.specs.Numbering.{numbered}
 use Rattle.sc_steps.proofs.LineLaws.{some_so}
-use Rattle.sc_rules.specs.Order.{ends, goes}
+use Rattle.sc_core_rules.specs.Order.{ends, goes}
 use Rattle.sc_resolve.specs.ByNumber.{seen}
 use Rattle.sc_resolve.proofs.OrderLaws.{seen_or}
 use Rattle.sc_demod.specs.Deleting.{IsRemoval, IsFirstRemoval, RemovesNone}

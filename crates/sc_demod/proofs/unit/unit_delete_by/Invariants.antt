@@ -1,8 +1,8 @@
 use Rattle.std.proofs.Common.{◌≡◌, ◌<◌, ◌≤◌, ◌+◌, ◌-◌, ℕ, List, length, Some}
-use Rattle.sc_data.specs.declared.Line.{Line}
-use Rattle.sc_data.specs.Clause.{weight, depth}
-use Rattle.sc_rules.specs.Order.{Exhausts}
-use Rattle.sc_rules.specs.Simplification.{IsRemovable, DeletesOnce}
+use Rattle.sc_term.specs.declared.Line.{Line}
+use Rattle.sc_term.specs.Clause.{weight, depth}
+use Rattle.sc_core_rules.specs.Order.{Exhausts}
+use Rattle.sc_core_rules.specs.Simplification.{IsRemovable, DeletesOnce}
 use Rattle.sc_steps.specs.Derivation.{last_clause}
 use Rattle.sc_resolve.specs.ByNumber.{seen}
 use Rattle.sc_demod.specs.Standing.{KeepsChecking}

@@ -1,6 +1,6 @@
 use Rattle.std.proofs.Common.{◌∙◌, sym, ap, ◌+◌, List, ◌∷◌, [], ◌++◌, length, slice_get, arith}
 use Rattle.std.proofs.lemmas.Option.{slice_get_read}
-use Rattle.sc_data.specs.declared.Literal.{Literal}
+use Rattle.sc_term.specs.declared.Literal.{Literal}
 use Rattle.sc_resolve.proofs.KeptLaws.{kept_width}
 use Rattle.sc_hyper.specs.Candidates.{candidate_numbers, IsOfElectron}
 use Rattle.sc_hyper.proofs.ExtendingLaws.{further}

@@ -2,14 +2,14 @@ use Rattle.std.proofs.Common.{◌≡◌, ◌∙◌, sym, subst, ◌+◌, List, [
 use Rattle.std.proofs.lemmas.List.Elements.{All-contains}
 use Rattle.std.proofs.lemmas.List.{length-map}
 use Rattle.std.specs.Borrow.{Bor}
-use Rattle.sc_data.specs.declared.Numbered.{Numbered}
+use Rattle.sc_term.specs.declared.Numbered.{Numbered}
 use Rattle.sc_resolve.specs.ByNumber.{seen}
 use Rattle.sc_resolve.specs.Extending.{Extends, Below}
 use Rattle.sc_resolve.specs.Kept.{IsKept}
 use Rattle.sc_resolve.proofs.KeptLaws.{kept_length}
 use Rattle.sc_resolve.proofs.OrderLaws.{seen_at, all_at}
 use Rattle.sc_resolve.proofs.LiteralLaws.{contains_at}
-use Rattle.sc_rules.specs.Hyperresolution.{IsPositive}
+use Rattle.sc_core_rules.specs.Hyperresolution.{IsPositive}
 use Rattle.sc_hyper.specs.declared.candidates.Candidate.{Candidate}
 use Rattle.sc_hyper.specs.Candidates.{candidate_numbers, IsOfUsable}
 use Rattle.sc_hyper.proofs.ExtendingLaws.{further}

@@ -1,5 +1,5 @@
 use Rattle.std.proofs.Common.{◌+◌, [], length}
-use Rattle.sc_rules.specs.Hyperresolution.{IsPositive}
+use Rattle.sc_core_rules.specs.Hyperresolution.{IsPositive}
 use Rattle.sc_resolve.specs.ByNumber.{seen}
 use Rattle.sc_resolve.specs.Extending.{Extends, Below}
 use Rattle.sc_hyper.specs.Candidates.{candidate_numbers, IsOfUsable}

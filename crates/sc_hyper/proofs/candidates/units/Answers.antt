@@ -3,7 +3,7 @@ use Rattle.std.proofs.lemmas.Bool.{eqb-true}
 use Rattle.std.proofs.lemmas.List.Elements.{All-contains}
 use Rattle.std.proofs.lemmas.List.{length-map}
 use Rattle.std.specs.Borrow.{Bor}
-use Rattle.sc_data.specs.declared.Numbered.{Numbered}
+use Rattle.sc_term.specs.declared.Numbered.{Numbered}
 use Rattle.sc_resolve.specs.ByNumber.{seen}
 use Rattle.sc_resolve.specs.Extending.{Extends, Below}
 use Rattle.sc_resolve.specs.Kept.{IsKept}

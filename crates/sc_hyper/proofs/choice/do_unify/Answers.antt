@@ -1,8 +1,8 @@
 use Rattle.std.proofs.Common.{◌≡◌, ◌∙◌, sym, List, Bool, true, false, Some, None, Option}
 use Rattle.std.specs.Prelude.{MatchOption, IsTrue, ◌↔◌}
 use Rattle.std.specs.Option.{is_some}
-use Rattle.sc_data.specs.declared.Pair.{Pair}
-use Rattle.sc_data.specs.Substitution.{Unify, IsMostGeneralUnifier}
+use Rattle.sc_term.specs.declared.Pair.{Pair}
+use Rattle.sc_term.specs.Substitution.{Unify, IsMostGeneralUnifier}
 use Rattle.sc_unify.specs.declared.bound.Binding.{Binding}
 use Rattle.sc_unify.specs.Unifiers.{substitution}
 use Rattle.sc_hyper.proofs.choice.do_unify.Goals as goal

@@ -1,6 +1,6 @@
 use Rattle.std.proofs.Common.{◌∙◌, sym, ap, subst, List, ◌∷◌, [], ◌++◌, refl, true≢false}
-use Rattle.sc_data.specs.Substitution.{Unify}
-use Rattle.sc_rules.specs.declared.site.Pick.{Pick}
+use Rattle.sc_term.specs.Substitution.{Unify}
+use Rattle.sc_core_rules.specs.declared.site.Pick.{Pick}
 use Rattle.sc_hyper.specs.Choosing.{pick_of}
 use Rattle.sc_hyper.proofs.choice.extended.Goals as goal
 

@@ -2,12 +2,12 @@ use Rattle.std.proofs.Common.{◌≡◌, ◌∙◌, sym, ap, subst, ◌<◌, ◌
 use Rattle.std.specs.Prelude.{MatchOption}
 use Rattle.std.proofs.lemmas.Option.{MatchOption-at_some, slice_get_read}
 use Rattle.std.proofs.lemmas.Bool.{eqb-true}
-use Rattle.sc_rules.specs.declared.site.HyperSite.{HyperSite}
-use Rattle.sc_rules.specs.Hyperresolution.{hyper_numbers}
+use Rattle.sc_core_rules.specs.declared.site.HyperSite.{HyperSite}
+use Rattle.sc_core_rules.specs.Hyperresolution.{hyper_numbers}
 use Rattle.sc_resolve.specs.Extending.{Extends}
 use Rattle.sc_resolve.proofs.Extending.{goes_on, stops}
 use Rattle.sc_resolve.proofs.LiteralLaws.{contains_at}
-use Rattle.sc_hyper.specs.declared.choice.Choice.{Choice}
+use Rattle.sc_hyper.specs.declared.choice.PartialSite.{PartialSite}
 use Rattle.sc_hyper.specs.Choosing.{IsNext, IsRefused, IsWithNext}
 use Rattle.sc_hyper.proofs.ChoosingLaws.{as_many, chosen_next, refused, next_rise, all_next, with_next, without_next}
 use Rattle.sc_hyper.proofs.choosing.+choose.Goals as goal
@@ -43,7 +43,7 @@ loop-at-preserved t c = λ low cs chosen.
           (with_next c.args.nucleus c.args.given all low ls cs at next there c.args.limit c.loop-at.sites w.choose.new.sites
           (w.in_ok-choose-in-Some.ensures low (cs ++ next ∷ []) (chosen_next all low ls cs choice chosen l next left w.in-Some.longer longer (contains_at all at next there))))
       | in-None w ↦
-          let none = subst (λ (o : Option Choice). MatchOption o (IsRefused c.args.nucleus c.args.given choice l next last) (λ longer. IsNext choice l next longer)) w.in-None.is c.in_ok-longer.ensures in
+          let none = subst (λ (o : Option PartialSite). MatchOption o (IsRefused c.args.nucleus c.args.given choice l next last) (λ longer. IsNext choice l next longer)) w.in-None.is c.in_ok-longer.ensures in
           subst (λ (ss : List HyperSite). Extends hyper_numbers (IsWithNext c.args.nucleus c.args.given all low ls cs at) c.args.limit c.loop-at.sites ss) (sym w.sites-is)
           (without_next c.args.nucleus c.args.given all low ls cs at next there c.args.limit c.loop-at.sites (refused c.args.nucleus c.args.given all low ls cs choice chosen l next left last (λ e. omega (arith, eqb-true (c.len-depth.result + 1) (length ls) e, c.len-depth.ensures)) none))
     ])

@@ -1,6 +1,6 @@
 use Rattle.std.proofs.Common.{◌-◌, ℕ, length, List}
 use Rattle.sc_hyper.specs.declared.candidates.Candidate.{Candidate}
-use Rattle.sc_rules.specs.Hyperresolution.{hyper_numbers}
+use Rattle.sc_core_rules.specs.Hyperresolution.{hyper_numbers}
 use Rattle.sc_resolve.specs.Extending.{Extends, Below}
 use Rattle.sc_hyper.specs.Choosing.{IsChosen, IsWithNext}
 use Rattle.sc_hyper.proofs.choosing.+choose.Given as goal

@@ -1,10 +1,10 @@
 use Rattle.std.proofs.Common.{◌≡◌, ◌∙◌, sym, ap, subst, arith, List, map, ◌∷◌, ℕ}
 use Rattle.std.specs.List.{Contains}
-use Rattle.sc_data.specs.Substitution.{Unify}
-use Rattle.sc_rules.specs.declared.site.Pick.{Pick}
-use Rattle.sc_rules.specs.declared.site.HyperSite.{HyperSite}
-use Rattle.sc_rules.specs.Pairing.{HaveOppositeSigns}
-use Rattle.sc_rules.specs.Hyperresolution.{hyper_numbers}
+use Rattle.sc_term.specs.Substitution.{Unify}
+use Rattle.sc_core_rules.specs.declared.site.Pick.{Pick}
+use Rattle.sc_core_rules.specs.declared.site.HyperSite.{HyperSite}
+use Rattle.sc_core_rules.specs.Pairing.{HaveOppositeSigns}
+use Rattle.sc_core_rules.specs.Hyperresolution.{hyper_numbers}
 use Rattle.sc_resolve.proofs.Extending.{full}
 use Rattle.sc_hyper.specs.Choosing.{pick_of, Completes}
 use Rattle.sc_hyper.proofs.ChoosingLaws.{as_many, has_so, has_not, site_added, no_given}

@@ -1,7 +1,7 @@
 use Rattle.std.proofs.Common.{sym, subst, List, [], length}
 use Rattle.std.specs.List.{All}
 use Rattle.std.proofs.lemmas.Result.{IfOk-weaker}
-use Rattle.sc_rules.specs.Hyperresolution.{IsPositive, AreHyperSites, hyper_numbers}
+use Rattle.sc_core_rules.specs.Hyperresolution.{IsPositive, AreHyperSites, hyper_numbers}
 use Rattle.sc_resolve.specs.ByNumber.{seen}
 use Rattle.sc_resolve.specs.Extending.{Extends, Below}
 use Rattle.sc_hyper.specs.declared.candidates.Candidate.{Candidate}

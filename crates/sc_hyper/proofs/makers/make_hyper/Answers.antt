@@ -1,8 +1,8 @@
 use Rattle.std.proofs.Common.{◌≡◌, ◌∙◌, sym, ap, subst, ℕ, List, ◌∷◌, map, Some, None, Option, slice_get}
-use Rattle.sc_data.specs.declared.Numbered.{Numbered}
-use Rattle.sc_rules.specs.declared.site.Pick.{Pick}
-use Rattle.sc_rules.specs.Hyperresolution.{AreNamed, picked_numbers, picked_literals}
-use Rattle.sc_rules.proofs.StepLaws.{same_some}
+use Rattle.sc_term.specs.declared.Numbered.{Numbered}
+use Rattle.sc_core_rules.specs.declared.site.Pick.{Pick}
+use Rattle.sc_core_rules.specs.Hyperresolution.{AreNamed, picked_numbers, picked_literals}
+use Rattle.sc_core_rules.proofs.StepLaws.{same_some}
 use Rattle.sc_hyper.specs.Negatives.{ArePicked, IsNegative}
 use Rattle.sc_hyper.proofs.ConclusionLaws.{is_hyper, found_named, first_kept, ready_to_make}
 use Rattle.sc_hyper.proofs.makers.make_hyper.Goals as goal

@@ -1,7 +1,7 @@
 use Rattle.std.proofs.Common.{◌≡◌, ◌∙◌, sym, ap, subst, ℕ, List, ◌∷◌, map, Some, None, Option, slice_get}
-use Rattle.sc_data.specs.declared.Numbered.{Numbered}
-use Rattle.sc_rules.specs.Hyperresolution.{AreNamed, unit_literals}
-use Rattle.sc_rules.proofs.StepLaws.{same_some}
+use Rattle.sc_term.specs.declared.Numbered.{Numbered}
+use Rattle.sc_core_rules.specs.Hyperresolution.{AreNamed, unit_literals}
+use Rattle.sc_core_rules.proofs.StepLaws.{same_some}
 use Rattle.sc_hyper.specs.Negatives.{ArePicked, IsOther}
 use Rattle.sc_hyper.proofs.ConclusionLaws.{is_ur, found_named, first_kept, ready_to_make}
 use Rattle.sc_hyper.proofs.makers.make_ur.Goals as goal

@@ -1,5 +1,5 @@
 use Rattle.std.proofs.Common.{◌≡◌, ◌≢◌, ℕ, ◌<◌, Some, slice_get}
-use Rattle.sc_data.specs.declared.Numbered.{Numbered}
+use Rattle.sc_term.specs.declared.Numbered.{Numbered}
 use Rattle.sc_hyper.proofs.named.find.Given as goal
 
 abbrev pub invariant-loop-at : goal.invariant-loop-at

@@ -1,6 +1,6 @@
 use Rattle.std.proofs.Common.{◌∙◌, ap, List, [], ◌∷◌, ◌++◌, Some, get_or, arith}
 use Rattle.std.proofs.lemmas.Option.{slice_get-get_or}
-use Rattle.sc_data.specs.declared.Numbered.{Numbered}
+use Rattle.sc_term.specs.declared.Numbered.{Numbered}
 use Rattle.sc_hyper.proofs.NamedLaws.{not_named, named_next, named_whole}
 use Rattle.sc_hyper.proofs.named.named.Goals as goal
 

@@ -1,7 +1,7 @@
 use Rattle.std.proofs.Common.{◌≡◌, ◌∙◌, ap, subst, ℕ, List, [], ◌∷◌, ◌++◌, Some}
 use Rattle.std.specs.Prelude.{IfOk}
-use Rattle.sc_data.specs.declared.Numbered.{Numbered}
-use Rattle.sc_rules.specs.Hyperresolution.{AreNamed}
+use Rattle.sc_term.specs.declared.Numbered.{Numbered}
+use Rattle.sc_core_rules.specs.Hyperresolution.{AreNamed}
 use Rattle.sc_hyper.proofs.named.parents_of.Goals as goal
 
 pub returns : goal.returns

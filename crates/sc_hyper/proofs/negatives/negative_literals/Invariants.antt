@@ -1,5 +1,5 @@
 use Rattle.std.proofs.Common.{◌≡◌, ◌≤◌, ◌+◌, [], Some, map, length}
-use Rattle.sc_data.specs.Numbering.{numbered}
+use Rattle.sc_term.specs.Numbering.{numbered}
 use Rattle.sc_resolve.specs.Extending.{Extends, Below}
 use Rattle.sc_hyper.specs.Negatives.{IsPickedAt, IsNegative}
 use Rattle.sc_hyper.proofs.NegativeLaws.{itself}

@@ -1,7 +1,7 @@
 use Rattle.std.proofs.Common.{◌≡◌, ◌∙◌, sym, ap, subst, ℕ, ◌+◌, List, [], ◌∷◌, ◌++◌, Some, map, length, length-append, arith}
 use Rattle.std.proofs.lemmas.Option.{slice_get_read}
-use Rattle.sc_data.specs.declared.Literal.{Literal}
-use Rattle.sc_data.specs.Numbering.{numbered}
+use Rattle.sc_term.specs.declared.Literal.{Literal}
+use Rattle.sc_term.specs.Numbering.{numbered}
 use Rattle.sc_resolve.specs.Extending.{Extends, Below}
 use Rattle.sc_hyper.specs.Negatives.{IsPickedAt, IsOther}
 use Rattle.sc_hyper.proofs.ExtendingLaws.{further}

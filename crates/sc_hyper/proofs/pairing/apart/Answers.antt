@@ -1,8 +1,8 @@
 use Rattle.std.proofs.Common.{◌≡◌, ◌+◌, ◌∙◌, sym, ap, subst, List, [], ◌∷◌, ◌++◌, drop, length, arith}
 use Rattle.std.proofs.lemmas.Option.{slice_get_read}
-use Rattle.sc_data.specs.declared.Clause.{Clause}
-use Rattle.sc_data.specs.declared.Numbered.{Numbered}
-use Rattle.sc_data.specs.JointInstance.{apart, apart_above, shift}
+use Rattle.sc_term.specs.declared.Clause.{Clause}
+use Rattle.sc_term.specs.declared.Numbered.{Numbered}
+use Rattle.sc_term.specs.JointInstance.{apart, apart_above, shift}
 use Rattle.sc_resolve.specs.Kept.{IsKept}
 use Rattle.sc_resolve.proofs.KeptLaws.{kept_width}
 use Rattle.sc_hyper.specs.Making.{clauses_of}

@@ -1,5 +1,5 @@
 use Rattle.std.proofs.Common.{◌≡◌, ◌≤◌, ◌*◌, ◌++◌, drop}
-use Rattle.sc_data.specs.JointInstance.{apart, apart_above}
+use Rattle.sc_term.specs.JointInstance.{apart, apart_above}
 use Rattle.sc_hyper.specs.Making.{clauses_of}
 use Rattle.sc_hyper.proofs.pairing.apart.Given as goal
 

@@ -1,6 +1,6 @@
 use Rattle.std.proofs.Common.{◌∙◌, sym, ap, List, Some, get_or, arith}
 use Rattle.std.proofs.lemmas.Option.{slice_get-get_or}
-use Rattle.sc_data.specs.declared.Pair.{Pair}
+use Rattle.sc_term.specs.declared.Pair.{Pair}
 use Rattle.sc_hyper.proofs.PairingLaws.{not_short, no_pair, pairs_next, pairs_whole}
 use Rattle.sc_hyper.proofs.pairing.pairs.Goals as goal
 

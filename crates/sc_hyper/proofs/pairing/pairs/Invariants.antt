@@ -1,5 +1,5 @@
 use Rattle.std.proofs.Common.{◌≡◌, List, take}
-use Rattle.sc_data.specs.declared.Pair.{Pair}
+use Rattle.sc_term.specs.declared.Pair.{Pair}
 use Rattle.sc_hyper.specs.Making.{ArePaired}
 use Rattle.sc_hyper.proofs.pairing.pairs.Given as goal
 

@@ -1,7 +1,7 @@
 use Rattle.std.proofs.Common.{◌≡◌, ◌∙◌, ap, sym, List, length}
 use Rattle.std.proofs.lemmas.Option.{MatchOption-at_some}
-use Rattle.sc_data.specs.declared.Term.{Term}
-use Rattle.sc_data.specs.Clause.{instance, IsWithinLimits}
+use Rattle.sc_term.specs.declared.Term.{Term}
+use Rattle.sc_term.specs.Clause.{instance, IsWithinLimits}
 use Rattle.sc_resolve.proofs.CanonicalLaws.{terms_of_canonical}
 use Rattle.sc_hyper.proofs.parts.added_part.Goals as goal
 

@@ -1,7 +1,7 @@
 use Rattle.std.proofs.Common.{◌≡◌, ◌+◌, ◌∙◌, sym, subst, ℕ, List, take, length, arith}
 use Rattle.std.specs.Prelude.{MatchOption}
 use Rattle.std.proofs.lemmas.Option.{slice_get_read, MatchOption-at_some}
-use Rattle.sc_data.specs.Clause.{instance, IsWithinLimits}
+use Rattle.sc_term.specs.Clause.{instance, IsWithinLimits}
 use Rattle.sc_resolve.specs.Lines.{HasPart}
 use Rattle.sc_resolve.proofs.LiteralLaws.{contains_at}
 use Rattle.sc_hyper.specs.Making.{IsOpened}

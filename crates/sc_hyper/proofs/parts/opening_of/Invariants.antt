@@ -1,7 +1,7 @@
 use Rattle.std.proofs.Common.{◌≡◌, ◌≤◌, ◌*◌, List, take, length}
 use Rattle.std.specs.List.{Contains}
-use Rattle.sc_data.specs.declared.Clause.{Clause}
-use Rattle.sc_data.specs.declared.Numbered.{Numbered}
+use Rattle.sc_term.specs.declared.Clause.{Clause}
+use Rattle.sc_term.specs.declared.Numbered.{Numbered}
 use Rattle.sc_resolve.specs.Lines.{IsKnown}
 use Rattle.sc_hyper.specs.Making.{AreTold, IsOpened}
 use Rattle.sc_hyper.proofs.parts.opening_of.Given as goal

@@ -1,9 +1,9 @@
 use Rattle.std.proofs.Common.{sym, ap, subst, List, Option, map, arith}
 use Rattle.std.specs.Prelude.{MatchOption}
-use Rattle.sc_data.specs.declared.Term.{Term}
-use Rattle.sc_data.specs.declared.Clause.{Clause}
-use Rattle.sc_data.specs.Term.{largest}
-use Rattle.sc_data.specs.Clause.{width}
+use Rattle.sc_term.specs.declared.Term.{Term}
+use Rattle.sc_term.specs.declared.Clause.{Clause}
+use Rattle.sc_term.specs.Term.{largest}
+use Rattle.sc_term.specs.Clause.{width}
 use Rattle.sc_resolve.specs.Parts.{IsOutside}
 use Rattle.sc_hyper.specs.Making.{clauses_of, AreTermsOfAll}
 use Rattle.sc_hyper.proofs.PairingLaws.{apart_wide}

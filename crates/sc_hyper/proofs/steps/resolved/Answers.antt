@@ -1,10 +1,10 @@
 use Rattle.std.proofs.Common.{◌≡◌, ◌+◌, ◌∙◌, sym, ap, subst, ℕ, List, Some, get_or, length, arith}
 use Rattle.std.proofs.lemmas.Result.{IfOk-weaker}
 use Rattle.std.proofs.lemmas.Option.{slice_get_read, slice_get-get_or}
-use Rattle.sc_data.specs.declared.Clause.{Clause}
-use Rattle.sc_data.specs.Proof.{clause_of}
-use Rattle.sc_rules.specs.Derivation.{EndsCanonical}
-use Rattle.sc_rules.specs.Inference.{Resolving, Ends}
+use Rattle.sc_term.specs.declared.Clause.{Clause}
+use Rattle.sc_term.specs.Proof.{clause_of}
+use Rattle.sc_core_rules.specs.Derivation.{EndsCanonical}
+use Rattle.sc_core_rules.specs.Inference.{Resolving, Ends}
 use Rattle.sc_hyper.specs.Making.{AreResolvedAll}
 use Rattle.sc_hyper.proofs.ListPieces.{zip_long}
 use Rattle.sc_hyper.proofs.StepsLaws.{can_parts_long, there_so, can_so, resolved_none, opposed_now, is_behind, resolved_next, resolved_end}

@@ -1,10 +1,10 @@
 use Rattle.std.proofs.Common.{◌∙◌, ◌-◌, ap, subst, List, [], length, map, ◌++◌, arith}
-use Rattle.sc_data.specs.declared.Literal.{Literal}
-use Rattle.sc_data.specs.Clause.{width}
-use Rattle.sc_rules.specs.declared.site.Pick.{Pick}
-use Rattle.sc_rules.specs.declared.site.HyperSite.{HyperSite}
-use Rattle.sc_rules.specs.declared.site.UrSite.{UrSite}
-use Rattle.sc_rules.specs.Hyperresolution.{hyper_numbers}
+use Rattle.sc_term.specs.declared.Literal.{Literal}
+use Rattle.sc_term.specs.Clause.{width}
+use Rattle.sc_core_rules.specs.declared.site.Pick.{Pick}
+use Rattle.sc_core_rules.specs.declared.site.HyperSite.{HyperSite}
+use Rattle.sc_core_rules.specs.declared.site.UrSite.{UrSite}
+use Rattle.sc_core_rules.specs.Hyperresolution.{hyper_numbers}
 use Rattle.sc_resolve.specs.Extending.{Extends}
 use Rattle.sc_resolve.proofs.KeptLaws.{kept_width, kept_length}
 use Rattle.sc_hyper.specs.Choosing.{Completes}

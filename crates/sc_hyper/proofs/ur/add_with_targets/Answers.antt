@@ -1,5 +1,5 @@
 use Rattle.std.proofs.Common.{length, refl, arith}
-use Rattle.sc_rules.specs.Hyperresolution.{ur_numbers}
+use Rattle.sc_core_rules.specs.Hyperresolution.{ur_numbers}
 use Rattle.sc_resolve.proofs.Extending.{goes_on, stops}
 use Rattle.sc_hyper.specs.Ur.{IsWithTargetAt}
 use Rattle.sc_hyper.proofs.UrLaws.{targets_rise, with_targets, no_targets}

@@ -1,4 +1,4 @@
-use Rattle.sc_rules.specs.Hyperresolution.{ur_numbers}
+use Rattle.sc_core_rules.specs.Hyperresolution.{ur_numbers}
 use Rattle.sc_resolve.specs.Extending.{Extends, Below}
 use Rattle.sc_hyper.specs.Ur.{IsWithTargetAt}
 use Rattle.sc_hyper.proofs.ur.add_with_targets.Given as goal

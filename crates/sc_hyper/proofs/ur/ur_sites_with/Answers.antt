@@ -2,10 +2,10 @@ use Rattle.std.proofs.Common.{◌≡◌, subst, [], length, arith}
 use Rattle.std.proofs.lemmas.List.{length-map}
 use Rattle.std.specs.Borrow.{Bor}
 use Rattle.std.proofs.lemmas.List.Elements.{All-contains}
-use Rattle.sc_data.specs.declared.Numbered.{Numbered}
+use Rattle.sc_term.specs.declared.Numbered.{Numbered}
 use Rattle.sc_resolve.proofs.KeptLaws.{kept_length}
 use Rattle.sc_resolve.proofs.LiteralLaws.{contains_at}
-use Rattle.sc_rules.specs.Hyperresolution.{ur_numbers}
+use Rattle.sc_core_rules.specs.Hyperresolution.{ur_numbers}
 use Rattle.sc_resolve.specs.Extending.{Extends, Below}
 use Rattle.sc_resolve.specs.ByNumber.{seen}
 use Rattle.sc_resolve.specs.Kept.{IsKept}

@@ -1,6 +1,6 @@
 use Rattle.std.proofs.Common.{◌≤◌, take}
 use Rattle.std.specs.List.{All}
-use Rattle.sc_data.specs.Clause.{width}
+use Rattle.sc_term.specs.Clause.{width}
 use Rattle.sc_interp.specs.declared.plain.Claim.{Claim}
 use Rattle.sc_interp.proofs.claims.widest.Given as goal
 

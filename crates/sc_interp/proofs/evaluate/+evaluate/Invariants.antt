@@ -1,5 +1,5 @@
 use Rattle.std.proofs.Common.{◌≡◌, ◌-◌, ◌^◌, min, map, take, slice_index}
-use Rattle.sc_data.specs.Interpretation as spec
+use Rattle.sc_term.specs.Interpretation as spec
 use Rattle.sc_interp.specs.Structure.{place_of, tables_of_size}
 use Rattle.sc_interp.proofs.evaluate.+evaluate.Given as goal
 

@@ -1,6 +1,6 @@
 use Rattle.std.proofs.Common.{◌≡◌, take, false, slice_index}
 use Rattle.std.specs.List.{list_any}
-use Rattle.sc_data.specs.Interpretation as spec
+use Rattle.sc_term.specs.Interpretation as spec
 use Rattle.sc_interp.specs.Structure.{tables_of_size}
 use Rattle.sc_interp.proofs.evaluate.some_literal_holds.Given as goal
 

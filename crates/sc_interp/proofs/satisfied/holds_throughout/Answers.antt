@@ -1,7 +1,7 @@
 use Rattle.std.proofs.Common.{◌∙◌, sym, ap, ◌-◌, ◌<◌, ◌≤◌, ◌^◌, length, refl, arith}
-use Rattle.sc_data.specs.Clause.{width}
+use Rattle.sc_term.specs.Clause.{width}
 use Rattle.std.proofs.lemmas.List.Elements.{All-replicate}
-use Rattle.sc_interp.specs.Assignments.{number_of}
+use Rattle.sc_interp.specs.Assignments.{assignment_number}
 use Rattle.sc_interp.proofs.Assignments.{bounded}
 use Rattle.sc_interp.proofs.Agreement.{satisfied, tried, all_tried, none_tried}
 use Rattle.sc_interp.proofs.satisfied.holds_throughout.Goals as goal
@@ -30,8 +30,8 @@ assignments-smaller c =
     let next = c.advance.ensures.next c.if-not-advance.false in
     let most = bounded c.args.size c.advance.new.values c.advance.ensures.elements in
     let power = ap (λ n. c.args.size ^ n) c.advance.ensures.length in
-    let less : c.args.size ^ length c.advance.new.values - number_of c.args.size c.advance.new.values
-    < c.args.size ^ length c.assignments.values - number_of c.args.size c.assignments.values = omega (arith, next, most, power) in
+    let less : c.args.size ^ length c.advance.new.values - assignment_number c.args.size c.advance.new.values
+    < c.args.size ^ length c.assignments.values - assignment_number c.args.size c.assignments.values = omega (arith, next, most, power) in
     less
 
 pub assignments-preserved : goal.assignments-preserved

@@ -1,5 +1,5 @@
 use Rattle.std.proofs.Common.{◌-◌, ◌^◌, length}
-use Rattle.sc_interp.specs.Assignments.{AreElements, number_of, HoldsBefore}
+use Rattle.sc_interp.specs.Assignments.{AreElements, assignment_number, HoldsBefore}
 use Rattle.sc_interp.proofs.satisfied.holds_throughout.Given as goal
 
 abbrev pub invariant-assignments : goal.invariant-assignments
@@ -9,4 +9,4 @@ invariant-assignments l = record {
 }
 
 abbrev pub decreases-assignments : goal.decreases-assignments
-decreases-assignments l = l.size ^ length l.values - number_of l.size l.values
+decreases-assignments l = l.size ^ length l.values - assignment_number l.size l.values

@@ -1,5 +1,5 @@
 use Rattle.std.proofs.Common.{refl}
-use Rattle.sc_data.specs.declared.Step.TheVariants.{Input}
+use Rattle.sc_term.specs.declared.Step.TheVariants.{Input}
 use Rattle.sc_keep.proofs.AddingLaws.{part_is_it, part_added, the_line, the_same}
 use Rattle.sc_keep.proofs.adding.add_part.Goals as goal
 

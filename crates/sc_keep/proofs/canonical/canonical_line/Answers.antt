@@ -1,6 +1,6 @@
 use Rattle.std.proofs.Common.{◌∙◌, sym, subst, refl, ℕ, List, length, ◌≤◌}
-use Rattle.sc_data.specs.JointInstance.{canonical}
-use Rattle.sc_rules.specs.Derivation.{AreTermsTo}
+use Rattle.sc_term.specs.JointInstance.{canonical}
+use Rattle.sc_core_rules.specs.Derivation.{AreTermsTo}
 use Rattle.sc_keep.specs.Canonical.{place_terms}
 use Rattle.sc_keep.proofs.CanonicalLaws.{canonical_terms}
 use Rattle.sc_keep.proofs.LightLaws.{few_firsts}

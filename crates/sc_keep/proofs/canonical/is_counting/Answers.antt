@@ -1,5 +1,6 @@
 use Rattle.std.proofs.Common.{◌∙◌, refl, arith}
-use Rattle.sc_keep.proofs.CanonicalLaws.{counts, counted}
+use Rattle.sc_keep.proofs.CanonicalLaws.{counted}
+use Rattle.sc_term.proofs.CanonicalForm.{counts}
 use Rattle.sc_keep.proofs.canonical.is_counting.Goals as goal
 
 pub returns-then-order-at : goal.returns-then-order-at

@@ -1,5 +1,5 @@
 use Rattle.std.proofs.Common.{◌≡◌, ◌∙◌, sym, subst, ap, ℕ, List, true≢false}
-use Rattle.sc_data.specs.Clause.{counting_from, variables}
+use Rattle.sc_term.specs.Clause.{counting_from, variables}
 use Rattle.sc_term.specs.Occurrence.{noted}
 use Rattle.sc_term.proofs.Occurrences.{noted-firsts}
 use Rattle.sc_keep.proofs.canonical.next_canonical.Goals as goal

@@ -1,5 +1,5 @@
 use Rattle.std.proofs.Common.{◌∙◌, sym, ◌++◌, ◌∷◌, []}
-use Rattle.sc_data.specs.declared.Term.{Var}
+use Rattle.sc_term.specs.declared.Term.{Var}
 use Rattle.sc_keep.proofs.CanonicalLaws.{no_place, one_more_place}
 use Rattle.sc_keep.proofs.canonical.places.Goals as goal
 

@@ -1,4 +1,4 @@
-use Rattle.sc_rules.specs.Rewriting.{HasRedex}
+use Rattle.sc_core_rules.specs.Rewriting.{HasRedex}
 use Rattle.sc_keep.specs.Lists.{book_of}
 use Rattle.sc_keep.proofs.KeepLaws.{deletes_none, deletes_them}
 use Rattle.sc_keep.proofs.deleting.delete_reducible.Goals as goal

@@ -1,4 +1,4 @@
-use Rattle.sc_subsume.specs.Subsumption.{Subsumes}
+use Rattle.sc_term.specs.Subsumption.{Subsumes}
 use Rattle.sc_keep.specs.Lists.{book_of}
 use Rattle.sc_keep.proofs.KeepLaws.{deletes_none, deletes_them}
 use Rattle.sc_keep.proofs.deleting.delete_subsumed.Goals as goal

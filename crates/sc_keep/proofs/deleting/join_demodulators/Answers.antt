@@ -1,6 +1,6 @@
 use Rattle.std.proofs.Common.{◌∙◌, sym, subst, ◌++◌, ◌∷◌, []}
-use Rattle.sc_rules.specs.Rewriting.{IsDemodulator}
-use Rattle.sc_rules.proofs.SoundProcessing.{is_demodulator}
+use Rattle.sc_core_rules.specs.Rewriting.{IsDemodulator}
+use Rattle.sc_core_rules.proofs.SoundProcessing.{is_demodulator}
 use Rattle.sc_keep.specs.Lists.{book_of}
 use Rattle.sc_keep.proofs.deleting.join_demodulators.Goals as goal
 

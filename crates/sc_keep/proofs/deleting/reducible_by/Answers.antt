@@ -1,6 +1,6 @@
 use Rattle.std.proofs.Common.{◌≢◌, ◌++◌}
 use Rattle.std.specs.List.{Contains}
-use Rattle.sc_rules.specs.Rewriting.{HasRedex}
+use Rattle.sc_core_rules.specs.Rewriting.{HasRedex}
 use Rattle.sc_keep.specs.Sweep.{IsOtherReducible}
 use Rattle.sc_keep.proofs.OthersLaws.{found_others, in_other_words}
 use Rattle.sc_keep.proofs.deleting.reducible_by.Goals as goal

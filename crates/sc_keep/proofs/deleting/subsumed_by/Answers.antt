@@ -1,6 +1,6 @@
 use Rattle.std.proofs.Common.{◌≢◌, ◌++◌}
 use Rattle.std.specs.List.{Contains}
-use Rattle.sc_subsume.specs.Subsumption.{Subsumes}
+use Rattle.sc_term.specs.Subsumption.{Subsumes}
 use Rattle.sc_keep.specs.Sweep.{IsOtherSubsumed}
 use Rattle.sc_keep.proofs.OthersLaws.{found_others, in_other_words}
 use Rattle.sc_keep.proofs.deleting.subsumed_by.Goals as goal

@@ -1,5 +1,5 @@
 use Rattle.std.proofs.Common.{◌∙◌, sym, ◌++◌, ◌<◌, true≢false}
-use Rattle.sc_data.specs.declared.Numbered.{Numbered}
+use Rattle.sc_term.specs.declared.Numbered.{Numbered}
 use Rattle.sc_keep.specs.Lists.{book_of}
 use Rattle.sc_keep.specs.Rivals.{IsFit}
 use Rattle.sc_keep.proofs.DistinctLaws.{distinct_first}

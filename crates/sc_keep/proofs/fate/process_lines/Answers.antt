@@ -1,8 +1,8 @@
 use Rattle.std.proofs.Common.{sym, subst}
-use Rattle.sc_reading.specs.declared.settings.Flags.{Flags}
-use Rattle.sc_reading.specs.declared.settings.Params.{Params}
-use Rattle.sc_rules.specs.Book.{live}
-use Rattle.sc_rules.specs.Simplification.{Simplifies}
+use Rattle.sc_input_rules.specs.declared.settings.Flags.{Flags}
+use Rattle.sc_input_rules.specs.declared.settings.Params.{Params}
+use Rattle.sc_core_rules.specs.Book.{live}
+use Rattle.sc_core_rules.specs.Simplification.{Simplifies}
 use Rattle.sc_keep.specs.Lists.{book_of}
 use Rattle.sc_keep.proofs.CanonicalForm.{ends_with_canonical}
 use Rattle.sc_keep.proofs.StaysReady.{stay_ready}

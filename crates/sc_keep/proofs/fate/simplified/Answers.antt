@@ -1,9 +1,9 @@
 use Rattle.std.proofs.Common.{◌≡◌, ◌≢◌, sym, subst, ◌++◌, List}
 use Rattle.std.specs.List.{AllPairs}
-use Rattle.sc_data.specs.declared.Numbered.{Numbered}
+use Rattle.sc_term.specs.declared.Numbered.{Numbered}
 use Rattle.sc_demod.specs.Standing.{ChecksWith}
-use Rattle.sc_rules.specs.Book.{live}
-use Rattle.sc_rules.specs.Simplification.{Simplifies}
+use Rattle.sc_core_rules.specs.Book.{live}
+use Rattle.sc_core_rules.specs.Simplification.{Simplifies}
 use Rattle.sc_keep.specs.Lists.{book_of}
 use Rattle.sc_keep.proofs.ReadyLaws.{apart}
 use Rattle.sc_keep.proofs.fate.simplified.Goals as goal

@@ -1,6 +1,6 @@
 use Rattle.std.proofs.Common.{◌∙◌, sym, true≢false}
-use Rattle.sc_data.specs.declared.Numbered.{Numbered}
-use Rattle.sc_subsume.specs.Subsumption.{Subsumes}
+use Rattle.sc_term.specs.declared.Numbered.{Numbered}
+use Rattle.sc_term.specs.Subsumption.{Subsumes}
 use Rattle.sc_keep.proofs.LeastLaws.{not_below, fails, takes}
 use Rattle.sc_keep.proofs.forward.better_subsumer.Goals as goal
 

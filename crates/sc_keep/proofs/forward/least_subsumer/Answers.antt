@@ -1,7 +1,7 @@
 use Rattle.std.proofs.Common.{sym, subst, List, ◌++◌, take}
 use Rattle.std.proofs.lemmas.List.{append-nil, take_all}
-use Rattle.sc_data.specs.declared.Numbered.{Numbered}
-use Rattle.sc_subsume.specs.Subsumption.{Subsumes}
+use Rattle.sc_term.specs.declared.Numbered.{Numbered}
+use Rattle.sc_term.specs.Subsumption.{Subsumes}
 use Rattle.sc_keep.specs.Least.{IsLeastNumber}
 use Rattle.sc_keep.proofs.LeastLaws.{one_further}
 use Rattle.sc_keep.proofs.forward.least_subsumer.Goals as goal

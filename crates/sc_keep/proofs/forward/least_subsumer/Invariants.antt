@@ -1,6 +1,6 @@
 use Rattle.std.proofs.Common.{◌++◌, List, take}
-use Rattle.sc_data.specs.declared.Numbered.{Numbered}
-use Rattle.sc_subsume.specs.Subsumption.{Subsumes}
+use Rattle.sc_term.specs.declared.Numbered.{Numbered}
+use Rattle.sc_term.specs.Subsumption.{Subsumes}
 use Rattle.sc_keep.specs.Least.{IsLeastNumber}
 use Rattle.sc_keep.proofs.forward.least_subsumer.Given as goal
 

@@ -1,5 +1,5 @@
 use Rattle.std.proofs.Common.{◌≡◌, ◌∙◌, ◌++◌, ◌∷◌, [], arith}
-use Rattle.sc_data.specs.Clause.{weight}
+use Rattle.sc_term.specs.Clause.{weight}
 use Rattle.sc_keep.proofs.lists.join.Goals as goal
 
 pub returns-clause-book : goal.returns-clause-book

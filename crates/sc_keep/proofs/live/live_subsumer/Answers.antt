@@ -1,6 +1,6 @@
 use Rattle.std.proofs.Common.{[], ◌++◌, None, arith}
-use Rattle.sc_data.specs.declared.Numbered.{Numbered}
-use Rattle.sc_subsume.specs.Subsumption.{Subsumes}
+use Rattle.sc_term.specs.declared.Numbered.{Numbered}
+use Rattle.sc_term.specs.Subsumption.{Subsumes}
 use Rattle.sc_keep.specs.Least.{IsLeastNumber}
 use Rattle.sc_keep.proofs.live.live_subsumer.Goals as goal
 

@@ -1,9 +1,9 @@
 use Rattle.std.proofs.Common.{sym, subst, ◌+◌, List, ◌<◌, length}
 use Rattle.std.specs.Prelude.{IsSomeAnd}
-use Rattle.sc_data.specs.declared.Line.{Line}
+use Rattle.sc_term.specs.declared.Line.{Line}
 use Rattle.sc_steps.specs.Derivation.{last_clause}
-use Rattle.sc_rules.specs.Order.{goes, ends}
-use Rattle.sc_rules.specs.Simplification.{MergesOnce}
+use Rattle.sc_core_rules.specs.Order.{goes, ends}
+use Rattle.sc_core_rules.specs.Simplification.{MergesOnce}
 use Rattle.sc_keep.proofs.MergeLaws.{last_length, still_short, falls, merge_found, merge_ends}
 use Rattle.sc_keep.proofs.merge.merge_all.Goals as goal
 

@@ -1,7 +1,7 @@
 use Rattle.std.proofs.Common.{◌∙◌, sym, ap, subst, List, ◌∷◌, []}
 use Rattle.std.specs.Prelude.{MatchOption}
-use Rattle.sc_data.specs.declared.Clause.{Clause}
-use Rattle.sc_data.specs.declared.Pair.{Pair}
+use Rattle.sc_term.specs.declared.Clause.{Clause}
+use Rattle.sc_term.specs.declared.Pair.{Pair}
 use Rattle.sc_keep.specs.Parts.{HasNoParts, HasParts}
 use Rattle.sc_keep.proofs.PartLaws.{units_pair}
 use Rattle.sc_keep.proofs.parts.parts_terms.Goals as goal

@@ -1,7 +1,7 @@
 use Rattle.std.proofs.Common.{◌≡◌, ◌∙◌, ap, ℕ, ◌+◌, List, ◌∷◌, [], ◌++◌, arith}
-use Rattle.sc_data.specs.declared.Clause.{Clause}
-use Rattle.sc_data.specs.Clause.{width}
-use Rattle.sc_data.specs.JointInstance.{apart, shift}
+use Rattle.sc_term.specs.declared.Clause.{Clause}
+use Rattle.sc_term.specs.Clause.{width}
+use Rattle.sc_term.specs.JointInstance.{apart, shift}
 use Rattle.sc_keep.proofs.PartLaws.{renamed_widths}
 use Rattle.sc_keep.proofs.parts.renamed_apart.Goals as goal
 

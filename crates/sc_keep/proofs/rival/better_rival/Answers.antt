@@ -1,7 +1,7 @@
 use Rattle.std.proofs.Common.{◌∙◌, sym, subst, Option, true≢false, arith}
 use Rattle.std.specs.Prelude.{MatchOption}
-use Rattle.sc_steps.specs.declared.derivation.Derived.{Derived}
-use Rattle.sc_rules.specs.Conflict.{Conflicts}
+use Rattle.sc_steps.specs.declared.derivations.derivation.Derived.{Derived}
+use Rattle.sc_core_rules.specs.Conflict.{Conflicts}
 use Rattle.sc_keep.proofs.RivalLaws.{itself_stays, greater_stays, no_rival, new_rival}
 use Rattle.sc_keep.proofs.LightLaws.{narrow}
 use Rattle.sc_keep.proofs.rival.better_rival.Goals as goal

@@ -1,6 +1,6 @@
 use Rattle.std.proofs.Common.{sym, subst, List, ◌++◌, take}
 use Rattle.std.proofs.lemmas.List.{append-nil, take_all}
-use Rattle.sc_data.specs.declared.Numbered.{Numbered}
+use Rattle.sc_term.specs.declared.Numbered.{Numbered}
 use Rattle.sc_keep.specs.Rivals.{IsLeastRival}
 use Rattle.sc_keep.proofs.LeastLaws.{one_further}
 use Rattle.sc_keep.proofs.rival.least_rival.Goals as goal

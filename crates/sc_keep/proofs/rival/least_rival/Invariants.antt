@@ -1,5 +1,5 @@
 use Rattle.std.proofs.Common.{◌++◌, List, take}
-use Rattle.sc_data.specs.declared.Numbered.{Numbered}
+use Rattle.sc_term.specs.declared.Numbered.{Numbered}
 use Rattle.sc_keep.specs.Rivals.{IsLeastRival}
 use Rattle.sc_keep.proofs.rival.least_rival.Given as goal
 

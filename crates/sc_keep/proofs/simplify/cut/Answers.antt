@@ -1,6 +1,6 @@
 use Rattle.std.proofs.Common.{◌≡◌, ◌++◌, sym, subst, List}
 use Rattle.std.specs.Borrow.{Bor}
-use Rattle.sc_data.specs.declared.Numbered.{Numbered}
+use Rattle.sc_term.specs.declared.Numbered.{Numbered}
 use Rattle.sc_resolve.specs.ByNumber.{seen}
 use Rattle.sc_keep.specs.LiveUnits.{AreUnitsInOrder}
 use Rattle.sc_keep.proofs.SimplifyUnits.{checks_by_units, deletes_by_units}

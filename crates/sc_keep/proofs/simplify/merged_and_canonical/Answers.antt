@@ -1,8 +1,8 @@
 use Rattle.std.proofs.Common.{sym, subst, List, ◌<◌, ◌+◌, ◌^◌, length}
 use Rattle.std.specs.Prelude.{IsSomeAnd}
-use Rattle.sc_data.specs.declared.Line.{Line}
+use Rattle.sc_term.specs.declared.Line.{Line}
 use Rattle.sc_steps.specs.Derivation.{last_clause}
-use Rattle.sc_rules.specs.Derivation.{EndsCanonical}
+use Rattle.sc_core_rules.specs.Derivation.{EndsCanonical}
 use Rattle.sc_keep.proofs.CanonicalForm.{ends_with_canonical}
 use Rattle.sc_keep.proofs.WithinLaws.{merged_within}
 use Rattle.sc_keep.proofs.SimplifyFound.{some_lines}

@@ -1,8 +1,8 @@
 use Rattle.std.proofs.Common.{◌≡◌, ◌∙◌, sym, subst, ◌++◌, ◌∷◌, [], Some, true≢false}
 use Rattle.std.proofs.lemmas.List.{take_all}
-use Rattle.sc_data.specs.declared.Numbered.{Numbered}
-use Rattle.sc_data.specs.Numbering.{numbered}
-use Rattle.sc_rules.specs.Order.{IsFilter, none}
+use Rattle.sc_term.specs.declared.Numbered.{Numbered}
+use Rattle.sc_term.specs.Numbering.{numbered}
+use Rattle.sc_core_rules.specs.Order.{IsFilter, none}
 use Rattle.sc_keep.proofs.StartLaws.{one_taken, one_passed}
 use Rattle.sc_keep.proofs.start.at_home.Goals.{then-stands_in+in_ok-copy+in_ok-push, else-stands_in}
 use Rattle.sc_keep.proofs.start.at_home.Goals as goal

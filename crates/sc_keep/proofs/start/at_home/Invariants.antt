@@ -1,7 +1,7 @@
 use Rattle.std.proofs.Common.{◌≡◌, take, Some}
-use Rattle.sc_data.specs.declared.Numbered.{Numbered}
-use Rattle.sc_data.specs.Numbering.{numbered}
-use Rattle.sc_rules.specs.Order.{IsFilter}
+use Rattle.sc_term.specs.declared.Numbered.{Numbered}
+use Rattle.sc_term.specs.Numbering.{numbered}
+use Rattle.sc_core_rules.specs.Order.{IsFilter}
 use Rattle.sc_keep.proofs.start.at_home.Given as goal
 
 abbrev pub invariant-loop-p : goal.invariant-loop-p

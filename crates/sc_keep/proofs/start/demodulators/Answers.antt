@@ -1,10 +1,10 @@
 use Rattle.std.proofs.Common.{◌≡◌, ◌∙◌, sym, subst, refl, ◌++◌, ◌∷◌, [], Some, true≢false}
 use Rattle.std.proofs.lemmas.List.{take_all}
-use Rattle.sc_data.specs.declared.Numbered.{Numbered}
-use Rattle.sc_data.specs.Numbering.{numbered}
-use Rattle.sc_reading.specs.declared.settings.Home.TheVariants.{Demodulators}
-use Rattle.sc_rules.specs.Order.{IsFilter, none}
-use Rattle.sc_rules.specs.Rewriting.{IsDemodulator}
+use Rattle.sc_term.specs.declared.Numbered.{Numbered}
+use Rattle.sc_term.specs.Numbering.{numbered}
+use Rattle.sc_input_rules.specs.declared.settings.Home.TheVariants.{Demodulators}
+use Rattle.sc_core_rules.specs.Order.{IsFilter, none}
+use Rattle.sc_core_rules.specs.Rewriting.{IsDemodulator}
 use Rattle.sc_keep.proofs.DemodsLaws.{earlier_less, is_one}
 use Rattle.sc_keep.proofs.StartLaws.{one_taken, one_passed}
 use Rattle.sc_keep.proofs.start.demodulators.Goals.{then-stands_in+in_ok-copy+in_ok-push, else-stands_in}

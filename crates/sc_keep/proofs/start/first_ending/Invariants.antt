@@ -1,5 +1,5 @@
 use Rattle.std.proofs.Common.{take}
-use Rattle.sc_reading.specs.Problem.{Stated}
+use Rattle.sc_input_rules.specs.Problem.{Stated}
 use Rattle.sc_keep.specs.Start.{HasInput, IsFirstEnding}
 use Rattle.sc_keep.proofs.start.first_ending.Given as goal
 

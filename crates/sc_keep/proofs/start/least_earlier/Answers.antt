@@ -1,6 +1,6 @@
 use Rattle.std.proofs.Common.{subst, List, [], take}
 use Rattle.std.proofs.lemmas.List.{take_all}
-use Rattle.sc_data.specs.declared.Numbered.{Numbered}
+use Rattle.sc_term.specs.declared.Numbered.{Numbered}
 use Rattle.sc_keep.specs.Start.{IsLeastEarlier}
 use Rattle.sc_keep.proofs.LeastLaws.{one_further}
 use Rattle.sc_keep.proofs.start.least_earlier.Goals as goal

@@ -1,4 +1,4 @@
-use Rattle.sc_reading.specs.declared.settings.Home.TheVariants.{Usable, Sos, Passive, Demodulators}
+use Rattle.sc_input_rules.specs.declared.settings.Home.TheVariants.{Usable, Sos, Passive, Demodulators}
 use Rattle.sc_keep.proofs.StartedLaws.{in_list}
 use Rattle.sc_keep.proofs.start.opened.Goals as goal
 

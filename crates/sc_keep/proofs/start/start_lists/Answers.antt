@@ -1,6 +1,6 @@
 use Rattle.std.proofs.Common.{◌≡◌, ◌∙◌, sym, ap, subst, List, length, arith}
-use Rattle.sc_data.specs.declared.Clause.{Clause}
-use Rattle.sc_data.specs.declared.Numbered.{Numbered}
+use Rattle.sc_term.specs.declared.Clause.{Clause}
+use Rattle.sc_term.specs.declared.Numbered.{Numbered}
 use Rattle.sc_keep.specs.Start.{IsFirstEnding}
 use Rattle.sc_keep.proofs.DemodsLaws.{all_demodulators, all_rising}
 use Rattle.sc_keep.proofs.StartedLaws.{all_fit, has_input, starts}

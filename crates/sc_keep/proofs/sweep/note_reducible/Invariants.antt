@@ -1,6 +1,6 @@
 use Rattle.std.proofs.Common.{◌≡◌, ◌++◌, List, take}
-use Rattle.sc_data.specs.declared.Numbered.{Numbered}
-use Rattle.sc_rules.specs.Order.{IsFilter}
+use Rattle.sc_term.specs.declared.Numbered.{Numbered}
+use Rattle.sc_core_rules.specs.Order.{IsFilter}
 use Rattle.sc_keep.specs.Sweep.{IsOtherReducible, numbers}
 use Rattle.sc_keep.proofs.sweep.note_reducible.Given as goal
 

@@ -1,6 +1,6 @@
 use Rattle.std.proofs.Common.{◌≡◌, ◌∙◌, sym, ap, subst, ℕ, ◌+◌, ◌++◌, List, take, Vec, Global, true≢false}
-use Rattle.sc_data.specs.declared.Numbered.{Numbered}
-use Rattle.sc_rules.specs.Order.{IsFilter}
+use Rattle.sc_term.specs.declared.Numbered.{Numbered}
+use Rattle.sc_core_rules.specs.Order.{IsFilter}
 use Rattle.sc_keep.specs.Sweep.{IsOtherSubsumed, numbers}
 use Rattle.sc_keep.proofs.SweepLaws.{one_picked, one_passed, none_picked, all_picked}
 use Rattle.sc_keep.proofs.sweep.note_subsumed.Goals.{then-branch+in_ok-push, else-branch}

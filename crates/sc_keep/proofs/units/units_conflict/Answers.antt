@@ -1,6 +1,6 @@
 use Rattle.std.proofs.Common.{subst, List, ◌∷◌, [], Option}
 use Rattle.std.specs.Prelude.{MatchOption}
-use Rattle.sc_data.specs.declared.Term.{Term}
+use Rattle.sc_term.specs.declared.Term.{Term}
 use Rattle.sc_keep.specs.Parts.{HasNoParts, HasParts, unit_pairs}
 use Rattle.sc_keep.proofs.ConflictFound.{none_any}
 use Rattle.sc_keep.proofs.units.units_conflict.Goals as goal

@@ -1,6 +1,6 @@
 use Rattle.std.proofs.Common.{◌++◌, sym, subst, take_all}
 use Rattle.std.proofs.lemmas.List.{append-nil}
-use Rattle.sc_rules.specs.Order.{IsFilter}
+use Rattle.sc_core_rules.specs.Order.{IsFilter}
 use Rattle.sc_resolve.specs.ByNumber.{seen}
 use Rattle.sc_keep.specs.LiveUnits.{HasOneLiteral}
 use Rattle.sc_keep.proofs.SimplifyUnits.{one_noted}

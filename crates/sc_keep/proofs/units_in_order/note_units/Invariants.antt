@@ -1,6 +1,6 @@
 use Rattle.std.proofs.Common.{List, ◌++◌, take}
-use Rattle.sc_data.specs.declared.Numbered.{Numbered}
-use Rattle.sc_rules.specs.Order.{IsFilter}
+use Rattle.sc_term.specs.declared.Numbered.{Numbered}
+use Rattle.sc_core_rules.specs.Order.{IsFilter}
 use Rattle.sc_resolve.specs.ByNumber.{seen}
 use Rattle.sc_keep.specs.LiveUnits.{HasOneLiteral}
 use Rattle.sc_keep.proofs.units_in_order.note_units.Given as goal

@@ -1,8 +1,8 @@
 use Rattle.std.proofs.Common.{[], ◌++◌, ap, sym, subst, rules}
 use Rattle.std.specs.Borrow.{Bor}
 use Rattle.std.proofs.lemmas.List.Sorted.{IsPermutation-map, IsNonDecreasingBy-from_sort_by_key}
-use Rattle.sc_data.specs.declared.Numbered.{Numbered}
-use Rattle.sc_rules.specs.Order.{IsFilter, none}
+use Rattle.sc_term.specs.declared.Numbered.{Numbered}
+use Rattle.sc_core_rules.specs.Order.{IsFilter, none}
 use Rattle.sc_resolve.specs.ByNumber.{seen}
 use Rattle.sc_resolve.proofs.OrderLaws.{seen_up}
 use Rattle.sc_keep.specs.LiveUnits.{HasOneLiteral}

@@ -1,10 +1,10 @@
 use Rattle.std.proofs.Common.{◌∙◌, sym, ap, subst, ℕ, List, Option}
 use Rattle.std.specs.Prelude.{MatchOption}
 use Rattle.std.proofs.lemmas.Option.{MatchOption-at_some}
-use Rattle.sc_data.specs.declared.Term.{Term}
-use Rattle.sc_data.specs.declared.Literal.{Literal}
-use Rattle.sc_data.specs.Numbering.{numbered}
-use Rattle.sc_data.specs.Path.{IsReplaced}
+use Rattle.sc_term.specs.declared.Term.{Term}
+use Rattle.sc_term.specs.declared.Literal.{Literal}
+use Rattle.sc_term.specs.Numbering.{numbered}
+use Rattle.sc_term.specs.Path.{IsReplaced}
 use Rattle.sc_para.specs.Conclusion.{AreSidesOf}
 use Rattle.sc_para.proofs.ConclusionLaws.{must_change, is_changed}
 use Rattle.sc_para.proofs.conclusion.changed_literal.Goals as goal

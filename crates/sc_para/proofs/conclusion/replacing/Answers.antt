@@ -1,10 +1,10 @@
 use Rattle.std.proofs.Common.{◌∙◌, ap, subst, List, length, Option, Some, arith}
 use Rattle.std.specs.Prelude.{IsSomeAnd}
-use Rattle.sc_data.specs.declared.Clause.{Clause}
-use Rattle.sc_data.specs.declared.Line.{Line}
-use Rattle.sc_data.specs.declared.Literal.{Literal}
-use Rattle.sc_data.specs.declared.Step.TheVariants.{Para}
-use Rattle.sc_rules.specs.Derivation.{AddsPart}
+use Rattle.sc_term.specs.declared.Clause.{Clause}
+use Rattle.sc_term.specs.declared.Line.{Line}
+use Rattle.sc_term.specs.declared.Literal.{Literal}
+use Rattle.sc_term.specs.declared.Step.TheVariants.{Para}
+use Rattle.sc_core_rules.specs.Derivation.{AddsPart}
 use Rattle.sc_resolve.proofs.LineLaws.{longer, last_is}
 use Rattle.sc_para.specs.Conclusion.{IsChanged}
 use Rattle.sc_para.proofs.ParaLaws.{adds_para}

@@ -1,7 +1,7 @@
 use Rattle.std.proofs.Common.{sym, true}
-use Rattle.sc_data.specs.Numbering.{numbered}
-use Rattle.sc_data.specs.Refuted.{equation}
-use Rattle.sc_rules.proofs.StepLaws.{same_some}
+use Rattle.sc_term.specs.Numbering.{numbered}
+use Rattle.sc_term.specs.Refuted.{equation}
+use Rattle.sc_core_rules.proofs.StepLaws.{same_some}
 use Rattle.sc_para.proofs.conclusion.sides_of.Goals as goal
 
 pub returns-in-None-clause-none : goal.returns-in-None-clause-none

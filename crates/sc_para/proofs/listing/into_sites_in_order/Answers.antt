@@ -1,8 +1,8 @@
 use Rattle.std.proofs.Common.{List, length, arith, [], ◌≡◌, subst}
 use Rattle.std.specs.Borrow.{Bor}
 use Rattle.std.proofs.lemmas.List.{length-map}
-use Rattle.sc_data.specs.declared.Numbered.{Numbered}
-use Rattle.sc_rules.specs.Paramodulation.{para_into_numbers}
+use Rattle.sc_term.specs.declared.Numbered.{Numbered}
+use Rattle.sc_core_rules.specs.Paramodulation.{para_into_numbers}
 use Rattle.sc_resolve.specs.ByNumber.{seen}
 use Rattle.sc_resolve.specs.Extending.{Extends, Below}
 use Rattle.sc_resolve.proofs.Extending.{goes_on, stops}

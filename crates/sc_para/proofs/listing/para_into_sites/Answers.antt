@@ -1,8 +1,8 @@
 use Rattle.std.proofs.Common.{sym, subst, List}
 use Rattle.std.specs.Borrow.{Bor}
 use Rattle.std.proofs.lemmas.Result.{IfOk-weaker}
-use Rattle.sc_data.specs.declared.Numbered.{Numbered}
-use Rattle.sc_rules.specs.Paramodulation.{AreParaIntoSites}
+use Rattle.sc_term.specs.declared.Numbered.{Numbered}
+use Rattle.sc_core_rules.specs.Paramodulation.{AreParaIntoSites}
 use Rattle.sc_resolve.specs.ByNumber.{AreByNumber, seen}
 use Rattle.sc_resolve.specs.Kept.{IsKept}
 use Rattle.sc_resolve.proofs.OrderLaws.{all_by_number}

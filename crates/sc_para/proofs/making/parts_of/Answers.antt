@@ -1,8 +1,8 @@
 use Rattle.std.proofs.Common.{◌≡◌, ◌∙◌, [], ◌∷◌, ap, sym, subst, length, arith, Option}
 use Rattle.std.specs.Prelude.{MatchOption}
 use Rattle.std.proofs.lemmas.Option.{MatchOption-at_some}
-use Rattle.sc_data.specs.declared.Clause.{Clause}
-use Rattle.sc_data.specs.Clause.{instance, width, IsWithinLimits}
+use Rattle.sc_term.specs.declared.Clause.{Clause}
+use Rattle.sc_term.specs.Clause.{instance, width, IsWithinLimits}
 use Rattle.sc_resolve.specs.declared.joint.Part.{Part}
 use Rattle.sc_resolve.specs.Literals.{pair_of}
 use Rattle.sc_resolve.specs.Parts.{IsOutside, AreTermsOfTwo, AreJoint}

@@ -2,8 +2,8 @@ use Rattle.std.proofs.Common.{◌<◌, [], ◌∷◌, length, subst, Option}
 use Rattle.std.specs.Prelude.{IsSomeAnd, MatchOption}
 use Rattle.std.proofs.lemmas.Option.{MatchOption-at_some}
 use Rattle.std.proofs.lemmas.Result.{IfOk-weaker}
-use Rattle.sc_data.specs.Clause.{IsWithinLimits}
-use Rattle.sc_rules.specs.Derivation.{AreTermsTo, EndsCanonical}
+use Rattle.sc_term.specs.Clause.{IsWithinLimits}
+use Rattle.sc_core_rules.specs.Derivation.{AreTermsTo, EndsCanonical}
 use Rattle.sc_resolve.specs.Literals.{pair_of}
 use Rattle.sc_resolve.specs.Made.{Makes}
 use Rattle.sc_resolve.specs.Parts.{IsOutside, AreJoint}

@@ -1,9 +1,9 @@
 use Rattle.std.proofs.Common.{◌∙◌, sym, ap, subst, length, List, map, sum, ◌≤◌, slice_get, arith}
 use Rattle.std.proofs.lemmas.Result.{on_ok_weaker}
-use Rattle.sc_data.specs.declared.Literal.{Literal}
-use Rattle.sc_data.specs.declared.Clause.{Clause}
-use Rattle.sc_data.specs.Clause.{literal_weight}
-use Rattle.sc_data.specs.JointInstance.{shift}
+use Rattle.sc_term.specs.declared.Literal.{Literal}
+use Rattle.sc_term.specs.declared.Clause.{Clause}
+use Rattle.sc_term.specs.Clause.{literal_weight}
+use Rattle.sc_term.specs.JointInstance.{shift}
 use Rattle.sc_resolve.specs.Extending.{Extends, Below}
 use Rattle.sc_resolve.proofs.KeptLaws.{kept_width, kept_length}
 use Rattle.sc_para.specs.Spots.{pair_numbers}

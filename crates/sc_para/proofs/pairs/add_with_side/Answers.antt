@@ -1,6 +1,6 @@
 use Rattle.std.proofs.Common.{subst, length}
 use Rattle.std.proofs.lemmas.Result.{on_ok_weaker}
-use Rattle.sc_data.specs.declared.Literal.{Literal}
+use Rattle.sc_term.specs.declared.Literal.{Literal}
 use Rattle.sc_resolve.specs.Extending.{Extends, Below}
 use Rattle.sc_para.specs.Spots.{pair_numbers}
 use Rattle.sc_para.specs.Pairs.{IsWithTarget}

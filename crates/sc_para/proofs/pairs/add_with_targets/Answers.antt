@@ -1,8 +1,8 @@
 use Rattle.std.proofs.Common.{◌∙◌, ap, sym, subst, length, List, ℕ, map, sum, ◌≤◌, ◌+◌, arith}
 use Rattle.std.proofs.lemmas.Option.{slice_get_read}
-use Rattle.sc_data.specs.declared.Term.{Term}
-use Rattle.sc_data.specs.declared.Literal.{Literal}
-use Rattle.sc_data.specs.Term.{term_weight}
+use Rattle.sc_term.specs.declared.Term.{Term}
+use Rattle.sc_term.specs.declared.Literal.{Literal}
+use Rattle.sc_term.specs.Term.{term_weight}
 use Rattle.sc_resolve.specs.Extending.{Extends}
 use Rattle.sc_resolve.proofs.Extending.{goes_on, stops}
 use Rattle.sc_para.specs.Spots.{pair_numbers}

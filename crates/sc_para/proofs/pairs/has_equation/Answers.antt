@@ -1,8 +1,8 @@
 use Rattle.std.proofs.Common.{◌≡◌, ◌∙◌, sym, ap, ◌<◌, ◌⊎◌, inl, inr, length, ℕ, Some, true, slice_get, arith}
 use Rattle.std.proofs.lemmas.Option.{slice_get_read, slice_get_within}
-use Rattle.sc_data.specs.declared.Term.{Term}
-use Rattle.sc_data.specs.Refuted.{equation}
-use Rattle.sc_rules.proofs.StepLaws.{same_some}
+use Rattle.sc_term.specs.declared.Term.{Term}
+use Rattle.sc_term.specs.Refuted.{equation}
+use Rattle.sc_core_rules.proofs.StepLaws.{same_some}
 use Rattle.sc_para.proofs.PairSites.{none_so, less_or_same}
 use Rattle.sc_para.proofs.pairs.has_equation.Goals as goal
 

@@ -1,8 +1,8 @@
 use Rattle.std.proofs.Common.{◌≡◌, ◌∙◌, sym, ap, subst, refl, ℕ, List, ◌==◌, length, Option, true, false}
 use Rattle.sc_steps.proofs.EqualityChecks.{none_of_length}
 use Rattle.std.specs.Prelude.{MatchOption}
-use Rattle.sc_data.specs.declared.Term.{Term}
-use Rattle.sc_data.specs.Path.{IsReplaced}
+use Rattle.sc_term.specs.declared.Term.{Term}
+use Rattle.sc_term.specs.Path.{IsReplaced}
 use Rattle.sc_steps.specs.Replacement.{IsTermReplaced}
 use Rattle.sc_para.proofs.ReplacingLaws.{not_replaced, not_within}
 use Rattle.sc_para.proofs.replacing.+replace.Goals as goal

@@ -1,5 +1,5 @@
 use Rattle.std.proofs.Common.{◌≡◌, ◌∙◌, sym, ap, suc, List, [], ◌∷◌, ◌++◌, take, drop, append_assoc}
-use Rattle.sc_data.specs.declared.Term.{Term}
+use Rattle.sc_term.specs.declared.Term.{Term}
 use Rattle.sc_steps.proofs.ChangedElement.{back_range, set_parts}
 use Rattle.sc_para.proofs.replacing.with_argument.Goals as goal
 

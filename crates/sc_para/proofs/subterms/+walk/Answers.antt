@@ -1,8 +1,8 @@
 use Rattle.std.proofs.Common.{◌≡◌, ◌∙◌, ap, subst, ◌+◌, length, List, [], ◌∷◌, ◌++◌, ℕ, arith}
 use Rattle.std.proofs.lemmas.Result.{on_ok_weaker}
 use Rattle.std.proofs.lemmas.Option.{slice_get_read}
-use Rattle.sc_data.specs.declared.Term.{Term}
-use Rattle.sc_data.specs.Term.{term_weight, term_depth}
+use Rattle.sc_term.specs.declared.Term.{Term}
+use Rattle.sc_term.specs.Term.{term_weight, term_depth}
 use Rattle.sc_term.proofs.Occurrences.{at-most-largest}
 use Rattle.sc_resolve.specs.Extending.{Extends}
 use Rattle.sc_resolve.proofs.Extending.{goes_on, stops}

@@ -1,5 +1,5 @@
 use Rattle.std.proofs.Common.{◌≡◌, ◌*◌, ◌+◌, map}
-use Rattle.sc_data.specs.Term.{term_depth, largest}
+use Rattle.sc_term.specs.Term.{term_depth, largest}
 use Rattle.sc_resolve.specs.Extending.{Extends, Below}
 use Rattle.sc_para.specs.Spots.{pair_numbers}
 use Rattle.sc_para.specs.Subterms.{IsWithinArgument}

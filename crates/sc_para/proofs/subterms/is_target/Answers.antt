@@ -1,11 +1,11 @@
 use Rattle.std.proofs.Common.{◌≡◌, ◌∙◌, sym, ap, subst, true, false, not, nat_eq}
 use Rattle.std.proofs.lemmas.Bool.{eq-eqb}
-use Rattle.sc_data.specs.declared.SymId.{SymId}
-use Rattle.sc_data.specs.declared.Literal.{Literal}
-use Rattle.sc_data.specs.declared.Term.{Term}
-use Rattle.sc_data.specs.declared.Term.TheVariants.{App}
-use Rattle.sc_data.specs.Substitution.{Unify}
-use Rattle.sc_rules.specs.Paramodulation.{atom_with}
+use Rattle.sc_term.specs.declared.SymId.{SymId}
+use Rattle.sc_term.specs.declared.Literal.{Literal}
+use Rattle.sc_term.specs.declared.Term.{Term}
+use Rattle.sc_term.specs.declared.Term.TheVariants.{App}
+use Rattle.sc_term.specs.Substitution.{Unify}
+use Rattle.sc_core_rules.specs.Paramodulation.{atom_with}
 use Rattle.sc_resolve.specs.Literals.{pair_of}
 use Rattle.sc_resolve.proofs.LiteralLaws.{told}
 use Rattle.sc_para.proofs.WalkLaws.{one_head}

@@ -1,6 +1,6 @@
 use Rattle.std.proofs.Common.{length, arith}
 use Rattle.std.proofs.lemmas.Option.{slice_get_read}
-use Rattle.sc_rules.specs.Resolution.{binary_numbers}
+use Rattle.sc_core_rules.specs.Resolution.{binary_numbers}
 use Rattle.sc_resolve.specs.Binary.{IsWithClause}
 use Rattle.sc_resolve.proofs.Extending.{goes_on, stops}
 use Rattle.sc_resolve.proofs.BinaryLaws.{clauses_rise, with_literal}

@@ -1,4 +1,4 @@
-use Rattle.sc_rules.specs.Resolution.{binary_numbers}
+use Rattle.sc_core_rules.specs.Resolution.{binary_numbers}
 use Rattle.sc_resolve.specs.Extending.{Extends, Below}
 use Rattle.sc_resolve.specs.Binary.{IsWithClause}
 use Rattle.sc_resolve.proofs.binary.add_with_clause.Given as goal

@@ -1,6 +1,6 @@
 use Rattle.std.proofs.Common.{sym, ◌∙◌, length, arith, true≢false}
 use Rattle.std.proofs.lemmas.Option.{slice_get_read}
-use Rattle.sc_rules.specs.Resolution.{binary_numbers}
+use Rattle.sc_core_rules.specs.Resolution.{binary_numbers}
 use Rattle.sc_resolve.specs.Binary.{IsWithLiteral}
 use Rattle.sc_resolve.proofs.Extending.{goes_on, stops}
 use Rattle.sc_resolve.proofs.BinaryLaws.{literals_rise, added, passed}

@@ -1,16 +1,16 @@
 use Rattle.std.proofs.Common.{◌∙◌, sym, ap, length, arith, ◌≡◌, List, subst, false}
 use Rattle.std.specs.List.{list_any}
 use Rattle.std.specs.Prelude.{OnOk}
-use Rattle.sc_data.specs.declared.Literal.{Literal}
-use Rattle.sc_data.specs.declared.Clause.{Clause}
-use Rattle.sc_data.specs.JointInstance.{shift}
-use Rattle.sc_rules.specs.Resolution.{binary_numbers}
+use Rattle.sc_term.specs.declared.Literal.{Literal}
+use Rattle.sc_term.specs.declared.Clause.{Clause}
+use Rattle.sc_term.specs.JointInstance.{shift}
+use Rattle.sc_core_rules.specs.Resolution.{binary_numbers}
 use Rattle.sc_resolve.specs.Extending.{Extends, Below}
 use Rattle.sc_resolve.specs.Binary.{IsWithClause}
 use Rattle.sc_resolve.specs.Literals.{may_resolve}
 use Rattle.sc_resolve.proofs.KeptLaws.{kept_width, kept_length, shifted_length}
 use Rattle.sc_resolve.proofs.BinaryLaws.{none_found}
-use Rattle.sc_data.specs.Clause.{width}
+use Rattle.sc_term.specs.Clause.{width}
 use Rattle.sc_resolve.proofs.binary.add_with_partner.Goals as goal
 
 pub returns-then-not-may_resolve_any : goal.returns-then-not-may_resolve_any

@@ -1,5 +1,5 @@
 use Rattle.std.proofs.Common.{[]}
-use Rattle.sc_rules.specs.Resolution.{binary_numbers}
+use Rattle.sc_core_rules.specs.Resolution.{binary_numbers}
 use Rattle.sc_resolve.specs.ByNumber.{seen}
 use Rattle.sc_resolve.specs.Extending.{Extends, Below}
 use Rattle.sc_resolve.specs.Binary.{IsWithPartner}

@@ -1,7 +1,7 @@
 use Rattle.std.proofs.Common.{arith, sym, ◌∙◌, ap, List, ℕ, length, true≢false, subst, ◌≡◌, Some}
-use Rattle.sc_data.specs.declared.Clause.{Clause}
-use Rattle.sc_data.specs.declared.Step.TheVariants.{Instance}
-use Rattle.sc_data.specs.Clause.{variables, firsts, counting_from, IsWithinLimits}
+use Rattle.sc_term.specs.declared.Clause.{Clause}
+use Rattle.sc_term.specs.declared.Step.TheVariants.{Instance}
+use Rattle.sc_term.specs.Clause.{variables, firsts, counting_from, IsWithinLimits}
 use Rattle.sc_resolve.specs.Lines.{IsAdded}
 use Rattle.sc_resolve.proofs.KeptLaws.{few_variables}
 use Rattle.sc_resolve.proofs.LineLaws.{last_is}

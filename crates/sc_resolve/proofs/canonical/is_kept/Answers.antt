@@ -1,5 +1,5 @@
 use Rattle.std.proofs.Common.{◌≡◌, ◌∙◌, ◌≤◌, sym, subst, List, ℕ, arith}
-use Rattle.sc_data.specs.Clause.{variables, firsts, counting_from, weight, depth}
+use Rattle.sc_term.specs.Clause.{variables, firsts, counting_from, weight, depth}
 use Rattle.sc_resolve.proofs.CanonicalLaws.{noted_so}
 use Rattle.sc_resolve.proofs.canonical.is_kept.Goals as goal
 

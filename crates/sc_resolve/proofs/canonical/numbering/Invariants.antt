@@ -1,5 +1,5 @@
 use Rattle.std.proofs.Common.{◌≡◌, ℕ, ◌<◌, Some, slice_get, length}
-use Rattle.sc_data.specs.declared.Term.{Var}
+use Rattle.sc_term.specs.declared.Term.{Var}
 use Rattle.sc_resolve.specs.Canonical.{place_in}
 use Rattle.sc_resolve.proofs.canonical.numbering.Given as goal
 

@@ -1,8 +1,8 @@
 use Rattle.std.proofs.Common.{sym, ◌∙◌, ◌≡◌, length, subst, arith, true≢false, slice_get}
 use Rattle.std.proofs.lemmas.Option.{slice_get_read}
-use Rattle.sc_data.specs.declared.Literal.{Literal}
-use Rattle.sc_rules.specs.Resolution.{factor_numbers}
-use Rattle.sc_rules.proofs.StepLaws.{same_some}
+use Rattle.sc_term.specs.declared.Literal.{Literal}
+use Rattle.sc_core_rules.specs.Resolution.{factor_numbers}
+use Rattle.sc_core_rules.proofs.StepLaws.{same_some}
 use Rattle.sc_resolve.specs.Literals.{AreMergeable}
 use Rattle.sc_resolve.specs.Factor.{IsWithSecond}
 use Rattle.sc_resolve.proofs.Extending.{goes_on, stops}

@@ -1,6 +1,6 @@
 use Rattle.std.proofs.Common.{ap, List, [], ◌≡◌, length, subst, arith}
-use Rattle.sc_data.specs.declared.Literal.{Literal}
-use Rattle.sc_rules.specs.Resolution.{factor_numbers}
+use Rattle.sc_term.specs.declared.Literal.{Literal}
+use Rattle.sc_core_rules.specs.Resolution.{factor_numbers}
 use Rattle.sc_resolve.specs.Extending.{Extends, Below}
 use Rattle.sc_resolve.specs.Factor.{IsWithFirst}
 use Rattle.sc_resolve.proofs.Extending.{goes_on, stops}

@@ -1,5 +1,5 @@
 use Rattle.std.proofs.Common.{[]}
-use Rattle.sc_rules.specs.Resolution.{factor_numbers}
+use Rattle.sc_core_rules.specs.Resolution.{factor_numbers}
 use Rattle.sc_resolve.specs.Extending.{Extends, Below}
 use Rattle.sc_resolve.specs.Factor.{IsWithFirst}
 use Rattle.sc_resolve.proofs.factor.factor_sites.Given as goal

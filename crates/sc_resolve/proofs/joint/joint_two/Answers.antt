@@ -1,7 +1,7 @@
 use Rattle.std.proofs.Common.{◌∙◌, ap, sym, List, [], ◌∷◌, ◌++◌}
 use Rattle.std.proofs.lemmas.Option.{MatchOption-at_some}
-use Rattle.sc_data.specs.declared.Clause.{Clause}
-use Rattle.sc_data.specs.Substitution.{Unify, IsMostGeneralUnifier}
+use Rattle.sc_term.specs.declared.Clause.{Clause}
+use Rattle.sc_term.specs.Substitution.{Unify, IsMostGeneralUnifier}
 use Rattle.sc_unify.specs.Unifiers.{substitution}
 use Rattle.sc_resolve.specs.Literals.{pair_of}
 use Rattle.sc_resolve.proofs.LiteralLaws.{apart_two}

@@ -1,7 +1,7 @@
 use Rattle.std.proofs.Common.{sym, ◌∙◌, subst, true≢false}
 use Rattle.std.proofs.lemmas.Result.{IfOk-weaker}
-use Rattle.sc_data.specs.declared.Clause.{Clause}
-use Rattle.sc_data.specs.declared.Step.TheVariants.{Instance}
+use Rattle.sc_term.specs.declared.Clause.{Clause}
+use Rattle.sc_term.specs.declared.Step.TheVariants.{Instance}
 use Rattle.sc_resolve.specs.Lines.{IsAdded, HasPart}
 use Rattle.sc_resolve.proofs.LineLaws.{part_added}
 use Rattle.sc_resolve.proofs.lines.add_part.Goals as goal

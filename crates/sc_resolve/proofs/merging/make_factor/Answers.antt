@@ -1,8 +1,8 @@
 use Rattle.std.proofs.Common.{◌≡◌, ◌∙◌, ap, sym, subst, List, Some, None, Option}
 use Rattle.std.specs.Prelude.{IfOk}
-use Rattle.sc_data.specs.declared.Literal.{Literal}
-use Rattle.sc_data.specs.Numbering.{numbered}
-use Rattle.sc_rules.specs.Inference.{Inference}
+use Rattle.sc_term.specs.declared.Literal.{Literal}
+use Rattle.sc_term.specs.Numbering.{numbered}
+use Rattle.sc_core_rules.specs.Inference.{Inference}
 use Rattle.sc_resolve.specs.Made.{Makes}
 use Rattle.sc_resolve.proofs.FactoringLaws.{is_this, both_there}
 use Rattle.sc_resolve.proofs.merging.make_factor.Goals as goal

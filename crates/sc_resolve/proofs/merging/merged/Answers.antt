@@ -1,9 +1,9 @@
 use Rattle.std.proofs.Common.{◌∙◌, ◌-◌, ap, sym, subst, List}
 use Rattle.std.proofs.lemmas.Result.{IfOk-weaker}
-use Rattle.sc_data.specs.declared.Literal.{Literal}
-use Rattle.sc_data.specs.declared.Clause.{Clause}
-use Rattle.sc_data.specs.declared.Line.{Line}
-use Rattle.sc_rules.specs.Derivation.{AddsPart, EndsCanonical}
+use Rattle.sc_term.specs.declared.Literal.{Literal}
+use Rattle.sc_term.specs.declared.Clause.{Clause}
+use Rattle.sc_term.specs.declared.Line.{Line}
+use Rattle.sc_core_rules.specs.Derivation.{AddsPart, EndsCanonical}
 use Rattle.sc_resolve.specs.Made.{AreMerging}
 use Rattle.sc_resolve.proofs.PartLaws.{NoMore, within_so, removed}
 use Rattle.sc_resolve.proofs.FactoringLaws.{adds_merge}

@@ -1,10 +1,10 @@
 use Rattle.std.proofs.Common.{◌≡◌, ◌∙◌, ap, sym, subst, List, Some, None, Option, arith}
 use Rattle.std.specs.Prelude.{IfOk}
-use Rattle.sc_data.specs.declared.Literal.{Literal}
-use Rattle.sc_data.specs.declared.Clause.{Clause}
-use Rattle.sc_data.specs.Numbering.{numbered}
-use Rattle.sc_data.specs.JointInstance.{shift}
-use Rattle.sc_rules.specs.Inference.{Inference}
+use Rattle.sc_term.specs.declared.Literal.{Literal}
+use Rattle.sc_term.specs.declared.Clause.{Clause}
+use Rattle.sc_term.specs.Numbering.{numbered}
+use Rattle.sc_term.specs.JointInstance.{shift}
+use Rattle.sc_core_rules.specs.Inference.{Inference}
 use Rattle.sc_resolve.specs.Binary.{renamed}
 use Rattle.sc_resolve.specs.Made.{Makes}
 use Rattle.sc_resolve.proofs.KeptLaws.{kept_width}

@@ -1,8 +1,8 @@
 use Rattle.std.proofs.Common.{◌∙◌, ap, subst, List}
 use Rattle.std.proofs.lemmas.Result.{IfOk-weaker}
-use Rattle.sc_data.specs.declared.Clause.{Clause}
-use Rattle.sc_data.specs.declared.Line.{Line}
-use Rattle.sc_rules.specs.Derivation.{AddsPart, EndsCanonical}
+use Rattle.sc_term.specs.declared.Clause.{Clause}
+use Rattle.sc_term.specs.declared.Line.{Line}
+use Rattle.sc_core_rules.specs.Derivation.{AddsPart, EndsCanonical}
 use Rattle.sc_resolve.specs.Made.{AreResolving}
 use Rattle.sc_resolve.proofs.PartLaws.{resolvent_within}
 use Rattle.sc_resolve.proofs.ResolvingLaws.{adds_resolve}

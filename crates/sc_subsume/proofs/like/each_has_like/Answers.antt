@@ -1,7 +1,7 @@
 use Rattle.std.proofs.Common.{◌∙◌, sym, subst, true≢false}
 use Rattle.std.proofs.lemmas.List.Elements.{AllWithin-more, at_read}
 use Rattle.std.specs.List.{Any}
-use Rattle.sc_data.specs.declared.Literal.{Literal}
+use Rattle.sc_term.specs.declared.Literal.{Literal}
 use Rattle.sc_subsume.specs.Search.{AreLike}
 use Rattle.sc_subsume.proofs.like.each_has_like.Goals as goal
 

@@ -1,5 +1,5 @@
 use Rattle.std.proofs.Common.{◌≡◌, map, take, length}
-use Rattle.sc_data.specs.Term.{joined, term_under, term_variables}
+use Rattle.sc_term.specs.Term.{joined, term_under, term_variables}
 use Rattle.sc_unify.specs.Matching.{IsMatched}
 use Rattle.sc_subsume.specs.Search.{bindings, Extends}
 use Rattle.sc_subsume.proofs.matching.+matching.Given as goal

@@ -1,5 +1,5 @@
 use Rattle.std.proofs.Common.{◌≡◌, ◌∙◌, sym, ap, subst, true, false, map, take, length, arith, true≢false}
-use Rattle.sc_data.specs.Term.{joined, term_under, term_variables}
+use Rattle.sc_term.specs.Term.{joined, term_under, term_variables}
 use Rattle.sc_unify.specs.Matching.{Matches}
 use Rattle.sc_subsume.specs.Search.{bindings}
 use Rattle.sc_subsume.proofs.TakingLaws.{is_taken, is_refused, is_unlike}

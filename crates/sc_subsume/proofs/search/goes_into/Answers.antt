@@ -1,7 +1,7 @@
 use Rattle.std.proofs.Common.{◌≡◌, ◌∙◌, ℕ, sym, subst, ap, refl, ◌+◌, ◌<◌, List, [], length, get_or, MatchOption, arith, true≢false}
 use Rattle.std.proofs.lemmas.List.{length-map, get_or-map}
 use Rattle.sc_subsume.specs.declared.order.Asked.{Asked}
-use Rattle.sc_subsume.specs.declared.search.Choice.{Choice}
+use Rattle.sc_subsume.specs.declared.search.Branch.{Branch}
 use Rattle.sc_subsume.specs.Search.{literals, HasNoPlace, IsFirstPlace, IsSearch, left_to_try}
 use Rattle.sc_subsume.proofs.SearchLaws as search_laws
 use Rattle.sc_subsume.proofs.LeftLaws as left_laws
@@ -29,7 +29,7 @@ loop-bound-smaller-in-Some c =
     let next = c.loop-bound.next in
     let l = (get_or c.args.c.now c.len-in-loop-bound.result c.index-c-len.result).literal.now in
     let h = subst (λ o. MatchOption o (HasNoPlace l ds next old new) (λ place. IsFirstPlace l ds next place old new)) c.in-Some.is c.in_ok-place.ensures in
-    let one : Choice = record { place = c.last_tried.result; bound = c.len-before.result } in
+    let one : Branch = record { place = c.last_tried.result; bound = c.len-before.result } in
     let few : length choices < length cs = omega (arith, c.loop-bound-test.true, c.len.ensures, length_literals c.args.c.now) in
     let before : c.len-before.result ≡ length old = omega arith in
     let tried = search_laws.last_tried c.in-Some.place (length ds) c.last_tried.result old new h.within h.extends
@@ -47,7 +47,7 @@ loop-bound-preserved-in-Some c =
     let next = c.loop-bound.next in
     let l = (get_or c.args.c.now c.len-in-loop-bound.result c.index-c-len.result).literal.now in
     let h = subst (λ o. MatchOption o (HasNoPlace l ds next old new) (λ place. IsFirstPlace l ds next place old new)) c.in-Some.is c.in_ok-place.ensures in
-    let one : Choice = record { place = c.last_tried.result; bound = c.len-before.result } in
+    let one : Branch = record { place = c.last_tried.result; bound = c.len-before.result } in
     let few : length choices < length cs = omega (arith, c.loop-bound-test.true, c.len.ensures, length_literals c.args.c.now) in
     let at : l ≡ get_or cs (length choices) l = asked_at c.args.c.now c.len-in-loop-bound.result (length choices) c.index-c-len.result (omega (arith, few, c.len-in-loop-bound.ensures, length_literals c.args.c.now)) c.len-in-loop-bound.ensures in
     let before : c.len-before.result ≡ length old = omega arith in

@@ -2,11 +2,11 @@ use Rattle.std.proofs.Common.{◌≡◌, ◌∙◌, sym, subst, ap, refl, ◌≤
 use Rattle.std.proofs.lemmas.List.Sorted.{All-permutation, IsPermutation-sym, IsPermutation-refl}
 use Rattle.std.specs.List.{Any}
 use Rattle.std.specs.List.Sorted.{IsPermutation}
-use Rattle.sc_data.specs.declared.Literal.{Literal}
-use Rattle.sc_data.specs.declared.Clause.{Clause}
-use Rattle.sc_data.specs.Clause.{literal_instance}
+use Rattle.sc_term.specs.declared.Literal.{Literal}
+use Rattle.sc_term.specs.declared.Clause.{Clause}
+use Rattle.sc_term.specs.Clause.{literal_instance}
 use Rattle.sc_subsume.specs.Search.{AreLike, GoesInto, literals}
-use Rattle.sc_subsume.specs.Subsumption.{Subsumes}
+use Rattle.sc_term.specs.Subsumption.{Subsumes}
 use Rattle.sc_subsume.proofs.subsumption.subsumes.Goals as goal
 use Rattle.sc_subsume.proofs.subsumption.subsumes.Goals.{then-few-many-via-then-few-many, then-few-many-via-else-few-many+then-not-each_has_like}
 

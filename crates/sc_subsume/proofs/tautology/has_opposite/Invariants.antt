@@ -1,5 +1,5 @@
 use Rattle.std.specs.List.{AllWithin}
-use Rattle.sc_data.specs.Proof.{AreOpposite}
+use Rattle.sc_term.specs.Proof.{AreOpposite}
 use Rattle.sc_subsume.proofs.tautology.has_opposite.Given as goal
 
 abbrev pub invariant-loop-m : goal.invariant-loop-m

@@ -1,12 +1,12 @@
 use Rattle.std.proofs.Common.{◌≡◌, ◌∙◌, sym, subst, ℕ, ◌<◌, ◌≤◌, List, length, Contains, true, arith, true≢false, inl, inr}
 use Rattle.std.proofs.lemmas.List.Elements.{AllWithin-more, at_read}
 use Rattle.std.specs.List.{AllWithin}
-use Rattle.sc_data.specs.declared.Literal.{Literal}
-use Rattle.sc_data.specs.declared.Clause.{Clause}
-use Rattle.sc_data.specs.declared.Term.{Term}
-use Rattle.sc_data.specs.Proof.{AreOpposite}
-use Rattle.sc_data.specs.Refuted.{equation}
-use Rattle.sc_subsume.specs.Subsumption.{IsTautology}
+use Rattle.sc_term.specs.declared.Literal.{Literal}
+use Rattle.sc_term.specs.declared.Clause.{Clause}
+use Rattle.sc_term.specs.declared.Term.{Term}
+use Rattle.sc_term.specs.Proof.{AreOpposite}
+use Rattle.sc_term.specs.Refuted.{equation}
+use Rattle.sc_term.specs.Subsumption.{IsTautology}
 use Rattle.sc_subsume.proofs.tautology.is_tautology.Goals as goal
 
 abbrev IsReflexive : Literal → Type 0

@@ -1,9 +1,9 @@
 use Rattle.std.proofs.Common.{◌≡◌, Contains, true}
 use Rattle.std.specs.List.{AllWithin}
-use Rattle.sc_data.specs.declared.Literal.{Literal}
-use Rattle.sc_data.specs.declared.Term.{Term}
-use Rattle.sc_data.specs.Proof.{AreOpposite}
-use Rattle.sc_data.specs.Refuted.{equation}
+use Rattle.sc_term.specs.declared.Literal.{Literal}
+use Rattle.sc_term.specs.declared.Term.{Term}
+use Rattle.sc_term.specs.Proof.{AreOpposite}
+use Rattle.sc_term.specs.Refuted.{equation}
 use Rattle.sc_subsume.proofs.tautology.is_tautology.Given as goal
 
 abbrev pub invariant-loop-l : goal.invariant-loop-l

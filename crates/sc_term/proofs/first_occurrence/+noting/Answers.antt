@@ -1,4 +1,4 @@
-use Rattle.sc_data.specs.Term.{term_variables}
+use Rattle.sc_term.specs.Term.{term_variables}
 use Rattle.sc_term.proofs.Occurrences.{noted-more}
 use Rattle.sc_term.proofs.first_occurrence.+noting.Goals as goal
 

@@ -1,5 +1,5 @@
 use Rattle.std.proofs.Common.{◌≡◌, map, take}
-use Rattle.sc_data.specs.Term.{joined, term_variables}
+use Rattle.sc_term.specs.Term.{joined, term_variables}
 use Rattle.sc_term.specs.Occurrence.{noted}
 use Rattle.sc_term.proofs.first_occurrence.+noting.Given as goal
 

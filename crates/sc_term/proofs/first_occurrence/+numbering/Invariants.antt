@@ -1,6 +1,6 @@
 use Rattle.std.proofs.Common.{◌≡◌, map, take}
-use Rattle.sc_data.specs.Term.{term_under}
-use Rattle.sc_data.specs.JointInstance.{renumbering}
+use Rattle.sc_term.specs.Term.{term_under}
+use Rattle.sc_term.specs.JointInstance.{renumbering}
 use Rattle.sc_term.proofs.first_occurrence.+numbering.Given as goal
 
 abbrev pub invariant-renumber_terms-loop-term : goal.invariant-renumber_terms-loop-term

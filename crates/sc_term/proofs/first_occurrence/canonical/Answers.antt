@@ -1,7 +1,7 @@
 use Rattle.std.proofs.Common.{◌≡◌, ◌∙◌, ap, [], map}
-use Rattle.sc_data.specs.Clause.{variables}
-use Rattle.sc_data.specs.Substitution.{literal_under}
-use Rattle.sc_data.specs.JointInstance.{renumbering}
+use Rattle.sc_term.specs.Clause.{variables}
+use Rattle.sc_term.specs.Substitution.{literal_under}
+use Rattle.sc_term.specs.JointInstance.{renumbering}
 use Rattle.sc_term.specs.Occurrence.{noted}
 use Rattle.sc_term.proofs.Occurrences.{noted-firsts}
 use Rattle.sc_term.proofs.first_occurrence.canonical.Goals as goal

@@ -1,5 +1,5 @@
 use Rattle.std.proofs.Common.{◌≡◌, ◌∙◌, ap, map}
-use Rattle.sc_data.specs.Term.{joined, term_variables}
+use Rattle.sc_term.specs.Term.{joined, term_variables}
 use Rattle.sc_term.specs.Occurrence.{noted, literal_variables}
 use Rattle.sc_term.proofs.Occurrences.{noted-more}
 use Rattle.sc_term.proofs.first_occurrence.note_variables.Goals as goal

@@ -1,5 +1,5 @@
 use Rattle.std.proofs.Common.{◌≡◌, map, take}
-use Rattle.sc_data.specs.Term.{joined}
+use Rattle.sc_term.specs.Term.{joined}
 use Rattle.sc_term.specs.Occurrence.{noted, literal_variables}
 use Rattle.sc_term.proofs.first_occurrence.note_variables.Given as goal
 

@@ -1,6 +1,6 @@
 use Rattle.std.proofs.Common.{◌≡◌, map, take}
-use Rattle.sc_data.specs.Substitution.{literal_under}
-use Rattle.sc_data.specs.JointInstance.{renumbering}
+use Rattle.sc_term.specs.Substitution.{literal_under}
+use Rattle.sc_term.specs.JointInstance.{renumbering}
 use Rattle.sc_term.proofs.first_occurrence.renumber_literals.Given as goal
 
 abbrev pub invariant-loop-literal : goal.invariant-loop-literal

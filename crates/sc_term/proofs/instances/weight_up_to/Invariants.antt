@@ -1,5 +1,5 @@
 use Rattle.std.proofs.Common.{◌≡◌, min, sum, map, take}
-use Rattle.sc_data.specs.Clause as of
+use Rattle.sc_term.specs.Clause as of
 use Rattle.sc_term.proofs.instances.weight_up_to.Given as goal
 
 abbrev pub invariant-loop-literal : goal.invariant-loop-literal

@@ -1,5 +1,5 @@
 use Rattle.std.proofs.Common.{◌≡◌, ◌∙◌, sym, ap, ◌<◌, arith}
-use Rattle.sc_data.specs.Term.{term_under, term_width, term_depth}
+use Rattle.sc_term.specs.Term.{term_under, term_width, term_depth}
 use Rattle.sc_term.specs.Occurrence.{shift_by}
 use Rattle.sc_term.proofs.Occurrences.{at-most-largest, pushed}
 use Rattle.sc_term.proofs.renaming.+shifting.Goals as goal

@@ -1,6 +1,6 @@
 use Rattle.std.proofs.Common.{◌≡◌, ◌*◌, ◌+◌, map, take}
 use Rattle.sc_term.specs.Occurrence.{shift_by}
-use Rattle.sc_data.specs.Term.{term_under, term_depth, largest}
+use Rattle.sc_term.specs.Term.{term_under, term_depth, largest}
 use Rattle.sc_term.proofs.renaming.+shifting.Given as goal
 
 abbrev pub decreases-shift_term : goal.decreases-shift_term

@@ -1,6 +1,6 @@
 use Rattle.std.proofs.Common.{◌≡◌, ◌∙◌, sym, ap, ◌<◌, map, arith}
-use Rattle.sc_data.specs.Term.{largest, term_width}
-use Rattle.sc_data.specs.Clause.{literal_width}
+use Rattle.sc_term.specs.Term.{largest, term_width}
+use Rattle.sc_term.specs.Clause.{literal_width}
 use Rattle.sc_term.proofs.Occurrences.{at-most-largest}
 use Rattle.sc_term.proofs.renaming.shift_literals.Goals as goal
 

@@ -1,6 +1,6 @@
 use Rattle.std.proofs.Common.{◌≡◌, map, take}
 use Rattle.sc_term.specs.Occurrence.{shift_by}
-use Rattle.sc_data.specs.Substitution.{literal_under}
+use Rattle.sc_term.specs.Substitution.{literal_under}
 use Rattle.sc_term.proofs.renaming.shift_literals.Given as goal
 
 abbrev pub invariant-loop-literal : goal.invariant-loop-literal

@@ -1,7 +1,7 @@
 use Rattle.std.proofs.Common.{◌∙◌, ap, List}
 use Rattle.sc_term.specs.declared.symbol.Symbol.{Symbol}
-use Rattle.sc_run_written.specs.RunText.{run_text}
-use Rattle.sc_run_written.specs.RunValue.{run_value}
+use Rattle.sc_text_run_rules.specs.RunText.{run_text}
+use Rattle.sc_text_run_rules.specs.RunValue.{run_value}
 use Rattle.sc_top.proofs.ProveLaws.{has_run}
 use Rattle.sc_top.proofs.runs.run.Goals as goal
 

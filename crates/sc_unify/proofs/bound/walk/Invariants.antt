@@ -1,5 +1,5 @@
 use Rattle.std.proofs.Common.{◌≡◌, ◌≤◌}
-use Rattle.sc_data.specs.Term.{term_under}
+use Rattle.sc_term.specs.Term.{term_under}
 use Rattle.sc_unify.specs.Bindings.{bindings, finished, cost}
 use Rattle.sc_unify.proofs.bound.walk.Given as goal
 

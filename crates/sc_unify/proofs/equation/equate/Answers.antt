@@ -1,5 +1,5 @@
 use Rattle.std.proofs.Common.{◌≡◌, ◌∙◌, sym, ap, ◌+◌, ℕ, List, ◌++◌, [], ◌∷◌, append_assoc, length, take, get_or, ◌<◌}
-use Rattle.sc_data.specs.declared.Term.{Term}
+use Rattle.sc_term.specs.declared.Term.{Term}
 use Rattle.sc_unify.specs.declared.equation.Equation.{Equation}
 use Rattle.sc_unify.specs.Equations.{equations, equated}
 use Rattle.sc_unify.proofs.Equations.{equated-more, equations-append}

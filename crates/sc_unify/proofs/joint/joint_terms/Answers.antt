@@ -1,7 +1,7 @@
 use Rattle.std.proofs.Common.{◌≡◌, ◌∙◌, sym, ap, subst, refl, [], map}
-use Rattle.sc_data.specs.Term.{joined}
-use Rattle.sc_data.specs.Clause.{variables}
-use Rattle.sc_data.specs.Substitution.{clause_under}
+use Rattle.sc_term.specs.Term.{joined}
+use Rattle.sc_term.specs.Clause.{variables}
+use Rattle.sc_term.specs.Substitution.{clause_under}
 use Rattle.sc_term.specs.Occurrence.{noted}
 use Rattle.sc_term.proofs.Occurrences.{noted-firsts}
 use Rattle.sc_unify.specs.Bindings.{bindings, finished}

@@ -1,6 +1,6 @@
 use Rattle.std.proofs.Common.{◌≡◌, ◌∙◌, sym, ap, []}
-use Rattle.sc_data.specs.Clause.{variables}
-use Rattle.sc_data.specs.Substitution.{clause_under}
+use Rattle.sc_term.specs.Clause.{variables}
+use Rattle.sc_term.specs.Substitution.{clause_under}
 use Rattle.sc_term.specs.Occurrence.{noted}
 use Rattle.sc_unify.specs.Bindings.{bindings, finished}
 use Rattle.sc_unify.proofs.JointRows.{noted-next}

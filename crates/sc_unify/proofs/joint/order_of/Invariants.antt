@@ -1,7 +1,7 @@
 use Rattle.std.proofs.Common.{◌≡◌, [], map, take}
-use Rattle.sc_data.specs.Term.{joined}
-use Rattle.sc_data.specs.Clause.{variables}
-use Rattle.sc_data.specs.Substitution.{clause_under}
+use Rattle.sc_term.specs.Term.{joined}
+use Rattle.sc_term.specs.Clause.{variables}
+use Rattle.sc_term.specs.Substitution.{clause_under}
 use Rattle.sc_term.specs.Occurrence.{noted}
 use Rattle.sc_unify.specs.Bindings.{bindings, finished}
 use Rattle.sc_unify.proofs.joint.order_of.Given as goal

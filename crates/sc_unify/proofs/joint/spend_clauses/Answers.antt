@@ -1,7 +1,7 @@
 use Rattle.std.proofs.Common.{◌≡◌, ◌∙◌, sym, ap, subst, map, sum, Option, None, Some}
-use Rattle.sc_data.specs.Term.{largest}
-use Rattle.sc_data.specs.Clause.{literal_weight, literal_depth}
-use Rattle.sc_data.specs.Substitution.{clause_under, literal_under}
+use Rattle.sc_term.specs.Term.{largest}
+use Rattle.sc_term.specs.Clause.{literal_weight, literal_depth}
+use Rattle.sc_term.specs.Substitution.{clause_under, literal_under}
 use Rattle.sc_unify.specs.Bindings.{bindings, finished}
 use Rattle.sc_unify.specs.Limits.{Spends}
 use Rattle.sc_unify.proofs.JointRows.{over, spent}

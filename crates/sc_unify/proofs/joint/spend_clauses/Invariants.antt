@@ -1,8 +1,8 @@
 use Rattle.std.proofs.Common.{◌≡◌, ◌≤◌, ◌+◌, map, sum, take}
-use Rattle.sc_data.specs.Term.{largest}
-use Rattle.sc_data.specs.Clause.{literal_weight, literal_depth}
-use Rattle.sc_data.specs.Substitution.{clause_under}
-use Rattle.sc_data.specs.JointInstance.{whole}
+use Rattle.sc_term.specs.Term.{largest}
+use Rattle.sc_term.specs.Clause.{literal_weight, literal_depth}
+use Rattle.sc_term.specs.Substitution.{clause_under}
+use Rattle.sc_term.specs.JointInstance.{whole}
 use Rattle.sc_unify.specs.Bindings.{bindings, finished}
 use Rattle.sc_unify.proofs.joint.spend_clauses.Given as goal
 

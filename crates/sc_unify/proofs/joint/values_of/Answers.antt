@@ -1,5 +1,5 @@
 use Rattle.std.proofs.Common.{◌≡◌, ◌∙◌, sym, ap, ◌<◌, ◌≤◌, ◌+◌, ◌-◌, arith}
-use Rattle.sc_data.specs.Clause.{width}
+use Rattle.sc_term.specs.Clause.{width}
 use Rattle.sc_unify.specs.Bindings.{bindings}
 use Rattle.sc_unify.specs.Joint.{value_at, values_above}
 use Rattle.sc_unify.proofs.JointRows.{told-next, width-least}

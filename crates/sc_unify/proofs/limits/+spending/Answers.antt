@@ -1,4 +1,4 @@
-use Rattle.sc_data.specs.Term.{term_under, term_weight, term_depth}
+use Rattle.sc_term.specs.Term.{term_under, term_weight, term_depth}
 use Rattle.sc_unify.specs.Bindings.{bindings, finished}
 use Rattle.sc_unify.proofs.Rows.{over, spent}
 use Rattle.sc_unify.proofs.limits.+spending.Goals as goal

@@ -1,5 +1,5 @@
 use Rattle.std.proofs.Common.{◌≡◌, ◌≤◌, ◌*◌, ◌+◌, map, sum, take}
-use Rattle.sc_data.specs.Term.{term_under, term_weight, term_depth, largest}
+use Rattle.sc_term.specs.Term.{term_under, term_weight, term_depth, largest}
 use Rattle.sc_unify.specs.Bindings.{bindings, finished}
 use Rattle.sc_unify.proofs.limits.+spending.Given as goal
 

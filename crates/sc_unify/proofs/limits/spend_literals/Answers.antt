@@ -1,5 +1,5 @@
-use Rattle.sc_data.specs.Clause.{literal_weight, literal_depth}
-use Rattle.sc_data.specs.Substitution.{literal_under}
+use Rattle.sc_term.specs.Clause.{literal_weight, literal_depth}
+use Rattle.sc_term.specs.Substitution.{literal_under}
 use Rattle.sc_unify.specs.Bindings.{bindings, finished}
 use Rattle.sc_unify.proofs.Rows.{over}
 use Rattle.sc_unify.proofs.limits.spend_literals.Goals as goal

@@ -1,7 +1,7 @@
 use Rattle.std.proofs.Common.{◌≡◌, ◌≤◌, ◌+◌, map, sum, take}
-use Rattle.sc_data.specs.Term.{largest}
-use Rattle.sc_data.specs.Clause.{literal_weight, literal_depth}
-use Rattle.sc_data.specs.Substitution.{literal_under}
+use Rattle.sc_term.specs.Term.{largest}
+use Rattle.sc_term.specs.Clause.{literal_weight, literal_depth}
+use Rattle.sc_term.specs.Substitution.{literal_under}
 use Rattle.sc_unify.specs.Bindings.{bindings, finished}
 use Rattle.sc_unify.proofs.limits.spend_literals.Given as goal
 

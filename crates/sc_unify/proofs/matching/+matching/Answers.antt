@@ -1,7 +1,7 @@
 use Rattle.std.proofs.Common.{◌≡◌, ◌∙◌, sym, ap, subst, ℕ, ◌+◌, ◌≤◌, ◌++◌, true, false, map, take, length, arith}
-use Rattle.sc_data.specs.Term.{joined, term_under, term_variables}
-use Rattle.sc_data.proofs.TermLaws.{same_symbol}
-use Rattle.sc_data.proofs.TermSteps.{variables-App}
+use Rattle.sc_term.specs.Term.{joined, term_under, term_variables}
+use Rattle.sc_term.proofs.TermLaws.{same_symbol}
+use Rattle.sc_term.proofs.TermSteps.{variables-App}
 use Rattle.sc_unify.specs.Bindings.{bindings}
 use Rattle.sc_unify.specs.Matching.{Matches, IsMatched}
 use Rattle.sc_unify.proofs.Unifiers.{differs}

@@ -1,6 +1,6 @@
 use Rattle.std.proofs.Common.{◌≡◌, ◌∙◌, sym, ap, ◌++◌, [], ◌∷◌, None}
 use Rattle.std.specs.Option.{unwrap_or}
-use Rattle.sc_data.specs.declared.Term.{Var}
+use Rattle.sc_term.specs.declared.Term.{Var}
 use Rattle.sc_unify.specs.Bindings.{bindings, lookup}
 use Rattle.sc_unify.specs.Matching.{filled}
 use Rattle.sc_unify.proofs.MatchingLaws.{filled-more, filled-none}

@@ -1,7 +1,7 @@
 use Rattle.std.proofs.Common.{◌≡◌, ◌∙◌, sym, ap, subst, true, false, [], map}
-use Rattle.sc_data.specs.Clause.{literal_width}
-use Rattle.sc_data.specs.Term.{joined, largest, term_under, term_variables, term_width}
-use Rattle.sc_data.proofs.TermLaws.{same_symbol}
+use Rattle.sc_term.specs.Clause.{literal_width}
+use Rattle.sc_term.specs.Term.{joined, largest, term_under, term_variables, term_width}
+use Rattle.sc_term.proofs.TermLaws.{same_symbol}
 use Rattle.sc_unify.specs.Bindings.{bindings}
 use Rattle.sc_unify.specs.Matching.{Matches, IsMatched, IsMatch, filled}
 use Rattle.sc_unify.proofs.Unifiers.{differs}

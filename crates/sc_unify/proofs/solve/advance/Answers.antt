@@ -1,7 +1,7 @@
 use Rattle.std.proofs.Common.{◌≡◌, ◌∙◌, sym, ap, ℕ, ◌+◌, ◌<◌, ◌≤◌, ◌↔◌, ◌-◌, ◌⊎◌, inl, inr, subst, take, Option, None, List, ◌++◌, [], ◌∷◌, sum, arith}
-use Rattle.sc_data.specs.declared.Term.{Term, Var}
-use Rattle.sc_data.specs.Term.{term_under}
-use Rattle.sc_data.specs.Substitution.{Substitution}
+use Rattle.sc_term.specs.declared.Term.{Term, Var}
+use Rattle.sc_term.specs.Term.{term_under}
+use Rattle.sc_term.specs.Substitution.{Substitution}
 use Rattle.sc_unify.specs.declared.bound.Binding.{Binding}
 use Rattle.sc_unify.specs.declared.equation.Equation.{Equation}
 use Rattle.sc_unify.specs.Bindings.{bindings, lookup, IsWalked, finished, cost, AreSolved, Respects}

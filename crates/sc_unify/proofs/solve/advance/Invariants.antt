@@ -1,5 +1,5 @@
 use Rattle.std.proofs.Common.{◌↔◌}
-use Rattle.sc_data.specs.Substitution.{Substitution}
+use Rattle.sc_term.specs.Substitution.{Substitution}
 use Rattle.sc_unify.specs.Bindings.{bindings, Respects}
 use Rattle.sc_unify.specs.Equations.{equations, Solves, left_cost}
 use Rattle.sc_unify.proofs.solve.advance.Given as goal

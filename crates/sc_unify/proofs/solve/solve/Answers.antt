@@ -1,9 +1,9 @@
 use Rattle.std.proofs.Common.{◌≡◌, ◌≢◌, ◌∙◌, sym, ap, subst, ℕ, ◌+◌, ◌<◌, ◌≤◌, ◌^◌, ◌↔◌, Bool, true, false, List, ◌++◌, [], ◌∷◌, None, arith}
 use Rattle.std.specs.List.{AllByRecursion}
-use Rattle.sc_data.specs.declared.Term.{Term, Var}
-use Rattle.sc_data.specs.Term.{term_under}
-use Rattle.sc_data.specs.Substitution.{Substitution}
-use Rattle.sc_data.proofs.SubstitutionLaws.{all_split, all_join}
+use Rattle.sc_term.specs.declared.Term.{Term, Var}
+use Rattle.sc_term.specs.Term.{term_under}
+use Rattle.sc_term.specs.Substitution.{Substitution}
+use Rattle.sc_term.proofs.SubstitutionLaws.{all_split, all_join}
 use Rattle.sc_unify.specs.declared.bound.Binding.{Binding}
 use Rattle.sc_unify.specs.declared.bound.Bound.{Bound}
 use Rattle.sc_unify.specs.declared.solve.Next.{Next}

@@ -1,5 +1,5 @@
 use Rattle.std.proofs.Common.{◌↔◌, ◌^◌}
-use Rattle.sc_data.specs.Substitution.{Substitution}
+use Rattle.sc_term.specs.Substitution.{Substitution}
 use Rattle.sc_unify.specs.Bindings.{bindings, AreSolved, Respects}
 use Rattle.sc_unify.specs.Equations.{equations, Solves}
 use Rattle.sc_unify.proofs.Unbound.{unbound}

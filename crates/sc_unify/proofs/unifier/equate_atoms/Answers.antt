@@ -1,6 +1,6 @@
 use Rattle.std.proofs.Common.{◌≡◌, ◌∙◌, sym, ap, ◌++◌, List}
-use Rattle.sc_data.specs.declared.Term.{Term}
-use Rattle.sc_data.proofs.TermLaws.{same_symbol}
+use Rattle.sc_term.specs.declared.Term.{Term}
+use Rattle.sc_term.proofs.TermLaws.{same_symbol}
 use Rattle.sc_unify.specs.Equations.{Equal, equations, equated}
 use Rattle.sc_unify.proofs.Unifiers.{differs, equated-atoms}
 use Rattle.sc_unify.proofs.unifier.equate_atoms.Goals as goal

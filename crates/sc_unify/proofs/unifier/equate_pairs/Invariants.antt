@@ -1,5 +1,5 @@
 use Rattle.std.proofs.Common.{◌↔◌, take}
-use Rattle.sc_data.specs.Substitution.{Substitution, IsUnifier}
+use Rattle.sc_term.specs.Substitution.{Substitution, IsUnifier}
 use Rattle.sc_unify.specs.Equations.{equations}
 use Rattle.sc_unify.specs.Unifiers.{EquatesPairs}
 use Rattle.sc_unify.proofs.unifier.equate_pairs.Given as goal

@@ -1,5 +1,5 @@
 use Rattle.std.proofs.Common.{◌≡◌, ◌∙◌, sym, ap, ◌<◌, arith}
-use Rattle.sc_data.specs.Term.{term_under, term_depth}
+use Rattle.sc_term.specs.Term.{term_under, term_depth}
 use Rattle.sc_unify.specs.Bindings.{bindings, finished}
 use Rattle.sc_unify.proofs.Rows.{pushed, largest-least}
 use Rattle.sc_unify.proofs.write.+writing.Goals as goal

@@ -1,5 +1,5 @@
 use Rattle.std.proofs.Common.{◌≡◌, ◌*◌, ◌+◌, map, take}
-use Rattle.sc_data.specs.Term.{term_under, term_depth, largest}
+use Rattle.sc_term.specs.Term.{term_under, term_depth, largest}
 use Rattle.sc_unify.specs.Bindings.{bindings, finished}
 use Rattle.sc_unify.proofs.write.+writing.Given as goal
 

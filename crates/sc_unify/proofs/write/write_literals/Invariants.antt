@@ -1,5 +1,5 @@
 use Rattle.std.proofs.Common.{◌≡◌, map, take}
-use Rattle.sc_data.specs.Substitution.{literal_under}
+use Rattle.sc_term.specs.Substitution.{literal_under}
 use Rattle.sc_unify.specs.Bindings.{bindings, finished}
 use Rattle.sc_unify.proofs.write.write_literals.Given as goal
 

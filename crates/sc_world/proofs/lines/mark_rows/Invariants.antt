@@ -1,5 +1,5 @@
 use Rattle.std.proofs.Common.{◌≡◌, length}
-use Rattle.sc_rules.specs.Selection.{opening_name}
+use Rattle.sc_core_rules.specs.Selection.{opening_name}
 use Rattle.sc_world.proofs.MarkLaws.{AreOfLines}
 use Rattle.sc_world.proofs.lines.mark_rows.Given as goal
 

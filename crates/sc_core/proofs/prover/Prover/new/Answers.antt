@@ -1,10 +1,11 @@
 use Rattle.std.proofs.Common.{◌≡◌, ◌∙◌, sym, ap, subst}
-use Rattle.sc_reading.specs.Problem.{Stated}
-use Rattle.sc_rules.specs.Start.{Starts}
-use Rattle.sc_rules.specs.Run.{started}
+use Rattle.sc_input_rules.specs.Problem.{Stated}
+use Rattle.sc_core_rules.specs.Start.{Starts}
+use Rattle.sc_core_rules.specs.Run.{started}
 use Rattle.sc_interp.specs.Versions.{opening}
 use Rattle.sc_keep.specs.State.{State}
 use Rattle.sc_core.specs.declared.turning.Running.{Running}
+use Rattle.sc_core.specs.State.{none_seen}
 use Rattle.sc_core.specs.Turning.{run_of}
 use Rattle.sc_core.proofs.ProverLaws.{start_reached}
 use Rattle.sc_core.proofs.prover.Prover.new.Goals as goal
@@ -22,5 +23,5 @@ invariant_of-result c =
       some = c.requires.some;
       few = c.requires.few;
       book = λ _. c.in_ok-goal.ensures.whole;
-      reached = λ _. start_reached c.start.new.self.problem c.start.new.self.book c.in_ok-goal.goal (run_of running) starts run;
+      reached = λ _. start_reached c.start.new.self.problem (none_seen c.args.lists) c.start.new.self.book c.in_ok-goal.goal (run_of running) starts run;
     }

@@ -1,6 +1,6 @@
 use Rattle.std.proofs.Common.{subst, sym, ◌<◌, List}
 use Rattle.std.specs.List.{All}
-use Rattle.sc_data.specs.declared.Numbered.{Numbered}
+use Rattle.sc_term.specs.declared.Numbered.{Numbered}
 use Rattle.sc_demod.proofs.ChangeLaws.{demods_push}
 use Rattle.sc_demod.proofs.demods.Demods.push.Goals as goal
 

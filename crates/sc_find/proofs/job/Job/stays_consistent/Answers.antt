@@ -1,7 +1,7 @@
 use Rattle.std.proofs.Common.{rules, ◌∙◌, ℕ, List, ◌<◌, ◌↔◌, sym, subst, refl, IsTrue, length, arith}
 use Rattle.std.specs.List.{All}
 use Rattle.std.proofs.lemmas.Option.{slice_get_read}
-use Rattle.sc_data.specs.declared.Clause.{Clause}
+use Rattle.sc_term.specs.declared.Clause.{Clause}
 use Rattle.sc_cells.specs.declared.instances.GroundInstance.{GroundInstance}
 use Rattle.sc_cells.specs.Cells.{AreCells, IsConsistent}
 use Rattle.sc_find.specs.Models.{Task}

@@ -1,7 +1,7 @@
 use Rattle.std.proofs.Common.{sym, subst}
-use Rattle.sc_rules.specs.Book.{IsDerived, IsSound}
+use Rattle.sc_core_rules.specs.Book.{IsDerived, IsSound}
 use Rattle.sc_keep.specs.State.{AreAllWithin, state_of}
-use Rattle.sc_rules.proofs.TurnLaws.{given_sound}
+use Rattle.sc_core_rules.proofs.TurnLaws.{given_sound}
 use Rattle.sc_keep.proofs.BookLaws.{give_ready}
 use Rattle.sc_keep.proofs.book.Book.give.Goals as goal
 

@@ -1,8 +1,8 @@
 use Rattle.std.proofs.Common.{◌≢◌, ◌∙◌, ap, subst, ◌<◌, ◌++◌}
 use Rattle.std.specs.List.{All, AllPairs}
-use Rattle.sc_data.specs.declared.Numbered.{Numbered}
-use Rattle.sc_data.specs.Clause.{IsCanonical, IsWithinLimits}
-use Rattle.sc_rules.specs.Book.{IsDerived, IsSound, next_number}
+use Rattle.sc_term.specs.declared.Numbered.{Numbered}
+use Rattle.sc_term.specs.Clause.{IsCanonical, IsWithinLimits}
+use Rattle.sc_core_rules.specs.Book.{IsDerived, IsSound, next_number}
 use Rattle.sc_keep.specs.State.{State, AreAllWithin, state_of}
 use Rattle.sc_keep.specs.Sweep.{HaveDistinctNumbers}
 use Rattle.sc_keep.specs.Lists.{book_of}

@@ -1,9 +1,9 @@
 use Rattle.std.proofs.Common.{◌≡◌, ◌∙◌, sym, subst, List}
-use Rattle.sc_steps.specs.declared.derivation.Derived.{Derived}
+use Rattle.sc_steps.specs.declared.derivations.derivation.Derived.{Derived}
 use Rattle.sc_steps.specs.Derivation.{AreDerived}
 use Rattle.sc_steps.proofs.DerivedLaws.{none_derived}
-use Rattle.sc_reading.specs.Problem.{Stated}
-use Rattle.sc_reading.specs.WellFormed.{IsProblem}
+use Rattle.sc_input_rules.specs.Problem.{Stated}
+use Rattle.sc_input_rules.specs.WellFormed.{IsProblem}
 use Rattle.sc_keep.specs.declared.lists.Lists.{Lists}
 use Rattle.sc_keep.specs.Lists.{book_of}
 use Rattle.sc_keep.specs.State.{empty_book}

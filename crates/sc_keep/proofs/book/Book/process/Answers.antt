@@ -1,11 +1,11 @@
 use Rattle.std.proofs.Common.{◌∙◌, sym, ap, subst, refl, ◌+◌, ◌<◌, ◌^◌, length, length-append, map, arith}
 use Rattle.std.proofs.lemmas.List.{length-map}
-use Rattle.sc_steps.specs.declared.derivation.Derived.{Derived}
-use Rattle.sc_data.specs.Proof.{AreSteps}
-use Rattle.sc_rules.specs.Book.{numbered_clauses}
-use Rattle.sc_rules.specs.Processing.{Processes}
-use Rattle.sc_rules.proofs.DerivedBook.{processes_goes_on}
-use Rattle.sc_rules.proofs.SoundProcessing.{processes_sound}
+use Rattle.sc_steps.specs.declared.derivations.derivation.Derived.{Derived}
+use Rattle.sc_term.specs.Proof.{AreSteps}
+use Rattle.sc_core_rules.specs.Book.{numbered_clauses}
+use Rattle.sc_core_rules.specs.Processing.{Processes}
+use Rattle.sc_core_rules.proofs.DerivedBook.{processes_goes_on}
+use Rattle.sc_core_rules.proofs.SoundProcessing.{processes_sound}
 use Rattle.sc_keep.specs.Lists.{book_of}
 use Rattle.sc_keep.specs.State.{State, state_of}
 use Rattle.sc_keep.proofs.AgainLaws.{again_numbered}

@@ -1,14 +1,14 @@
 use Rattle.std.proofs.Common.{sym, subst, All, List, zip}
 use Rattle.std.specs.List.{AllByRecursion}
-use Rattle.sc_data.specs.declared.Clause.{Clause}
-use Rattle.sc_reading.specs.declared.settings.Home.{Home}
-use Rattle.sc_reading.specs.WellFormed.{FitsHome}
+use Rattle.sc_term.specs.declared.Clause.{Clause}
+use Rattle.sc_input_rules.specs.declared.settings.Home.{Home}
+use Rattle.sc_input_rules.specs.WellFormed.{FitsHome}
 use Rattle.sc_keep.specs.Rivals.{IsFitClause}
 use Rattle.sc_keep.specs.Lists.{book_of}
 use Rattle.sc_keep.specs.State.{State, state_of}
-use Rattle.sc_rules.specs.Start.{Starts}
+use Rattle.sc_core_rules.specs.Start.{Starts}
 use Rattle.sc_keep.proofs.BookLaws.{fits, starts_derived}
-use Rattle.sc_rules.proofs.RunLaws.{starts_sound}
+use Rattle.sc_core_rules.proofs.RunLaws.{starts_sound}
 use Rattle.sc_keep.proofs.StartReady.{starts_ready}
 use Rattle.sc_keep.proofs.StaysWithin.{starts_within}
 use Rattle.sc_keep.proofs.book.Book.start.Goals as goal

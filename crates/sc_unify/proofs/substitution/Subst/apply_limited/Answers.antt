@@ -1,5 +1,5 @@
 use Rattle.std.proofs.Common.{◌≡◌, ◌∙◌, sym, ap, refl}
-use Rattle.sc_data.specs.Substitution.{clause_under}
+use Rattle.sc_term.specs.Substitution.{clause_under}
 use Rattle.sc_unify.specs.Bindings.{bindings, finished}
 use Rattle.sc_unify.specs.Unifiers.{substitution}
 use Rattle.sc_unify.proofs.Applying.{borrowed, within, beyond}

@@ -1,0 +1,2 @@
+pub mod LeavesInTime
+pub mod TrueRows

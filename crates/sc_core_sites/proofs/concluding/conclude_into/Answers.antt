@@ -1,0 +1,20 @@
+use Rattle.std.proofs.Common.{subst, refl, List}
+use Rattle.std.specs.List.{Contains}
+use Rattle.sc_term.specs.declared.Numbered.{Numbered}
+use Rattle.sc_core_rules.specs.Sites.{ParaInto}
+use Rattle.sc_core_sites.proofs.ConcludingLaws.{concludes, from_this}
+use Rattle.sc_core_sites.proofs.concluding.conclude_into.Goals as goal
+
+pub make_para-requires-clause-site : goal.make_para-requires-clause-site
+make_para-requires-clause-site c = (
+  c.requires.site.0,
+  from_this c.args.given.now c.args.parents.now c.requires.differ c.args.site.now.from c.in-Some.from.now c.in-Some.ensures.0
+      (subst (λ (l : List Numbered). Contains l c.in-Some.from.now) c.as_slice.ensures c.in-Some.ensures.1) c.args.site.now refl c.requires.site.0 c.requires.site.1,
+)
+
+pub returns-in-Some : goal.returns-in-Some
+returns-in-Some c =
+    concludes c.args.given.now c.args.parents.now (ParaInto c.args.site.now) c.make_para.result c.requires.site
+    (λ i h. c.make_para.ensures i
+    (from_this c.args.given.now c.args.parents.now c.requires.differ c.args.site.now.from c.in-Some.from.now c.in-Some.ensures.0
+    (subst (λ (l : List Numbered). Contains l c.in-Some.from.now) c.as_slice.ensures c.in-Some.ensures.1) c.args.site.now refl i h))

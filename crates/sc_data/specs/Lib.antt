@@ -1,9 +1,0 @@
-pub mod Numbering
-pub mod Path
-pub mod Term
-pub mod Clause
-pub mod Refuted
-pub mod Proof
-pub mod Substitution
-pub mod JointInstance
-pub mod Interpretation

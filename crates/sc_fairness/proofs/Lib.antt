@@ -1,5 +1,0 @@
-pub mod Counting
-pub mod BookChanges
-pub mod Fairness
-pub mod InTime
-pub mod BoundMet

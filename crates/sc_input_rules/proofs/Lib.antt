@@ -1,0 +1,56 @@
+mod TokenExamples
+mod ClauseExamples
+mod FaultExamples
+mod ProblemExamples
+pub mod Shrinking
+pub mod ShrinkingOfClauses
+pub mod OneMore
+pub mod Prefix
+pub mod PrefixInTurn
+pub mod PrefixOfSides
+pub mod PrefixOfClauses
+pub mod PrefixOfItems
+pub mod PrefixOfProblems
+pub mod TwoPasses
+pub mod Booleans
+pub mod Spelling
+pub mod Taken
+pub mod SidesRead
+pub mod SidesBack
+pub mod ClauseSpelling
+pub mod LiteralsRead
+pub mod ClausesRead
+pub mod ClausesBack
+pub mod Unpassed
+pub mod Standing
+pub mod NoStop
+pub mod Tokenized
+pub mod ClauseWithin
+pub mod ListedRead
+pub mod ItemWords
+pub mod ItemsRead
+pub mod AssignmentRead
+pub mod ListingRead
+pub mod ProblemRead
+pub mod Terms
+pub mod WeightLaw
+pub mod DepthLaw
+pub mod ArityLaw
+pub mod ClauseParts
+pub mod ClauseWeight
+pub mod ClauseDepth
+pub mod ClauseArity
+pub mod Once
+pub mod SignatureLaw
+pub mod SymbolNumbers
+pub mod OverLaw
+pub mod VariableNumbers
+pub mod CanonicalLaw
+pub mod SidesOfEquation
+pub mod DemodulatorLaw
+pub mod ParamsLaw
+pub mod TextTokenized
+pub mod InputLaw
+pub mod WellFormedLaw
+pub mod ReadProblems
+pub mod Ends

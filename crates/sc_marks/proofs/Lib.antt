@@ -1,2 +1,0 @@
-pub mod CanonicalMarks
-pub mod WideMarks

@@ -1,5 +1,0 @@
-use Rattle.sc_model_laws.proofs.ModelLaws.{found_models_true}
-use Rattle.sc_model_laws.proofs.found_models_are_true.Goals as goal
-
-pub returns : goal.returns
-returns c = found_models_true

@@ -1,5 +1,0 @@
-use Rattle.sc_model_laws.proofs.ModelLaws.{no_model_none}
-use Rattle.sc_model_laws.proofs.no_model_means_none.Goals as goal
-
-pub returns : goal.returns
-returns c = no_model_none

@@ -1,5 +1,0 @@
-use Rattle.sc_model_laws.proofs.ModelLaws.{no_tables_no_model}
-use Rattle.sc_model_laws.proofs.no_tables_mean_no_model.Goals as goal
-
-pub returns : goal.returns
-returns c = no_tables_no_model

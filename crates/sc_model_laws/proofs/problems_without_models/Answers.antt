@@ -1,5 +1,0 @@
-use Rattle.sc_model_laws.proofs.ModelLaws.{problems_without}
-use Rattle.sc_model_laws.proofs.problems_without_models.Goals as goal
-
-pub returns : goal.returns
-returns c = problems_without

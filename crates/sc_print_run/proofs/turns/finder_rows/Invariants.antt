@@ -1,6 +1,0 @@
-use Rattle.std.proofs.Common.{◌≡◌, ◌++◌, take}
-use Rattle.sc_run_written.specs.RunText.{finder_rows}
-use Rattle.sc_print_run.proofs.turns.finder_rows.Given as goal
-
-abbrev pub invariant-loop-i : goal.invariant-loop-i
-invariant-loop-i l = l.text.items ≡ l.initial.text.items ++ finder_rows 1 (take l.i l.ends)

@@ -1,7 +1,0 @@
-use Rattle.std.proofs.Common.{◌≡◌, ◌++◌, map, take}
-use Rattle.sc_run_written.specs.RunText.{list_rows}
-use Rattle.sc_run_written.specs.RunValue.{version_value}
-use Rattle.sc_print_run.proofs.versions.versions.Given as goal
-
-abbrev pub invariant-loop-i : goal.invariant-loop-i
-invariant-loop-i l = l.text.items ≡ l.initial.text.items ++ list_rows l.sig l.finder 0 (map version_value (take l.i l.list))

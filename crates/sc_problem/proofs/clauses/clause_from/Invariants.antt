@@ -1,6 +1,0 @@
-use Rattle.std.proofs.Common.{◌≡◌, map, take}
-use Rattle.sc_reading.specs.Numbering.{literal_of, number_in, variable_order}
-use Rattle.sc_problem.proofs.clauses.clause_from.Given as goal
-
-abbrev pub invariant-loop-literal : goal.invariant-loop-literal
-invariant-loop-literal l = l.literals ≡ map (literal_of (number_in (variable_order l.written)) l.sig) (take l.literal-index l.written)

@@ -1,7 +1,0 @@
-use Rattle.std.proofs.Common.{◌≡◌, take}
-use Rattle.sc_reading.specs.Problem as spec
-use Rattle.sc_grammar.specs.Items.{items_of}
-use Rattle.sc_problem.proofs.settings.last_value.Given as goal
-
-abbrev pub invariant-loop-item : goal.invariant-loop-item
-invariant-loop-item l = l.value ≡ spec.last_value l.name l.default (items_of (take l.item-index l.items))

@@ -1,6 +1,0 @@
-use Rattle.std.proofs.Common.{◌≡◌, take, flat_map}
-use Rattle.sc_problem.specs.Listed.{homes_in}
-use Rattle.sc_problem.proofs.stated.homes_of.Given as goal
-
-abbrev pub invariant-loop-item : goal.invariant-loop-item
-invariant-loop-item l = l.homes ≡ flat_map homes_in (take l.item-index l.items)

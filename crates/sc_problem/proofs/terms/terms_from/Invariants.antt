@@ -1,6 +1,0 @@
-use Rattle.std.proofs.Common.{◌≡◌, reverse, map}
-use Rattle.sc_reading.specs.Numbering.{terms_of}
-use Rattle.sc_problem.proofs.terms.terms_from.Given as goal
-
-abbrev pub invariant-loop-occurrence : goal.invariant-loop-occurrence
-invariant-loop-occurrence g l = reverse l.stack.items ≡ terms_of (g.N.Numbering.number l.variables) l.sig (reverse (map (λ o. o.now) l.yielded))

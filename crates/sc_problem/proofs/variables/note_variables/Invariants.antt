@@ -1,8 +1,0 @@
-use Rattle.std.proofs.Common.{◌≡◌, take}
-use Rattle.sc_reading.specs.Token.{same_text}
-use Rattle.sc_problem.specs.Once.{with_each}
-use Rattle.sc_problem.specs.Names.{names_of_variables}
-use Rattle.sc_problem.proofs.variables.note_variables.Given as goal
-
-abbrev pub invariant-loop-occurrence : goal.invariant-loop-occurrence
-invariant-loop-occurrence l = l.variables ≡ with_each same_text l.fn.variables (names_of_variables (take l.occurrence-index l.occurrences))

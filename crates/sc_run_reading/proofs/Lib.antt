@@ -1,2 +1,0 @@
-mod RunExamples
-mod RunFaults

@@ -1,5 +1,0 @@
-pub mod RowWords
-pub mod VersionGrammar
-pub mod RowGrammar
-pub mod RunSection
-pub mod RunReading

@@ -1,5 +1,0 @@
-pub mod Standing
-pub mod ExactLines
-pub mod ExactRows
-pub mod ExactRuns
-pub mod Laws

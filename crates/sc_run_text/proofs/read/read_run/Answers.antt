@@ -1,7 +1,0 @@
-use Rattle.std.proofs.Common.{rules}
-use Rattle.sc_run_written.specs.RunValue.{run_value}
-use Rattle.sc_run_text.proofs.Laws.{run_is}
-use Rattle.sc_run_text.proofs.read.read_run.Goals as goal
-
-pub returns-clause-ok : goal.returns-clause-ok
-returns-clause-ok c = run_is c.args.sig.now c.args.bytes.now c.args.from (run_value c.in_ok-run.run') c.in_ok-run.field-0-1 (search rules)

@@ -1,3 +1,0 @@
-pub mod RunValue
-pub mod ModelText
-pub mod RunText

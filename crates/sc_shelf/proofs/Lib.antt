@@ -1,0 +1,4 @@
+pub mod Fronts
+pub mod EntryLaws
+pub mod Steps
+pub mod Last

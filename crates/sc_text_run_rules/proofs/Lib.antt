@@ -1,0 +1,3 @@
+pub mod RunExamples
+mod ReadingExamples
+mod RunFaults

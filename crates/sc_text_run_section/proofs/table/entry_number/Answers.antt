@@ -1,0 +1,13 @@
+use Rattle.std.proofs.Common.{arith}
+use Rattle.sc_interp.proofs.Symbols.{small_power}
+use Rattle.sc_text_run_section.proofs.table.entry_number.Goals as goal
+
+pub pow-requires : goal.pow-requires
+pow-requires c =
+    let small = small_power c.from.result c.from-2.result (omega (arith, c.from.ensures, c.requires.size)) (omega (arith, c.from-2.ensures, c.requires.arity)) in
+    omega (arith, small)
+
+pub returns-clause-few : goal.returns-clause-few
+returns-clause-few c =
+    let small = small_power c.from.result c.from-2.result (omega (arith, c.from.ensures, c.requires.size)) (omega (arith, c.from-2.ensures, c.requires.arity)) in
+    omega (arith, small, c.pow.ensures)

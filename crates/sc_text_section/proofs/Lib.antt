@@ -1,0 +1,7 @@
+pub mod Sequences
+pub mod TermsOfNames
+pub mod Bracketed
+pub mod LinesInTurn
+pub mod SectionEnds
+pub mod PrefixOfSteps
+pub mod PrefixOfSections

@@ -1,0 +1,26 @@
+use Rattle.sc_top.proofs.ToldLaws.{answered, cut_short, decided, told, read_fault, no_read_fault}
+use Rattle.sc_top.proofs.alone.Goals as goal
+
+pub returns-clause-decided : goal.returns-clause-decided
+returns-clause-decided g c = λ decisive six.
+    decided c.args.command _ _ _ _ decisive _ _ _ c.judge-answer.result c.judge-answer.ensures.stands (c.write_answer.ensures.whole six)
+
+pub returns-clause-told : goal.returns-clause-told
+returns-clause-told g c = λ five six seven.
+    told c.args.command _ _ _ _ _ _ _ c.judge-answer.result five seven c.judge-answer.ensures.stands (c.write_answer.ensures.whole six)
+
+pub returns-clause-answered : goal.returns-clause-answered
+returns-clause-answered g c = λ six.
+    answered c.args.command _ _ _ _ _ _ _ c.judge-answer.result c.judge-answer.ensures.stands (c.write_answer.ensures.whole six)
+
+pub returns-clause-read_fault : goal.returns-clause-read_fault
+returns-clause-read_fault g c =
+    read_fault c.args.command _ _ _ _ c.judge-answer.result c.judge-answer.ensures.stands c.write_answer.ensures.status
+
+pub returns-clause-quiet : goal.returns-clause-quiet
+returns-clause-quiet g c = λ five six.
+    c.judge-answer.ensures.quiet (no_read_fault _ c.judge-answer.result c.write_answer.ensures.status c.write_answer.ensures.memory five six)
+
+pub returns-clause-cut_short : goal.returns-clause-cut_short
+returns-clause-cut_short g c = λ six.
+    cut_short c.args.command _ _ _ _ _ c.judge-answer.result c.judge-answer.ensures.stands (c.write_answer.ensures.part six)

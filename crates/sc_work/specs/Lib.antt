@@ -1,3 +1,0 @@
-pub mod Finish
-pub mod Parents
-pub mod Items
