@@ -1,5 +1,5 @@
 -- What the prover is seen as.
-use Rattle.std.specs.Prelude.{◌⊎◌, ◌≤◌, ℕ, List, [], ◌∷◌, ◌++◌, map, length, Bool, true, Option, Some, None, replicate}
+use Rattle.std.specs.Prelude.{◌⊎◌, ◌≤◌, ℕ, List, [], ◌∷◌, ◌++◌, map, length, Bool, true, Option, Some, None, replicate, AllPairs}
 use Rattle.std.specs.List.{AllZip, AllByRecursion}
 use Rattle.sc_input_rules.specs.Problem.{Stated}
 use Rattle.sc_interp.specs.Versions.{ClaimedStructure}
@@ -9,7 +9,7 @@ use Rattle.sc_core_rules.specs.declared.row.Outcome.TheVariants as outcome
 use Rattle.sc_core_rules.specs.Book.{Book}
 use Rattle.sc_core_rules.specs.Selection.{Seen}
 use Rattle.sc_core_rules.specs.Turn.{Run}
-use Rattle.sc_core_rules.specs.Run.{IsRun, started, prefixes}
+use Rattle.sc_core_rules.specs.Run.{IsRun, started, prefixes, looks_of}
 use Rattle.sc_core_laws.specs.LeavesInTime.{WasPut, HasTurn, WasGivenBy, IsDeletedBy, last_turn}
 use Rattle.sc_core.specs.declared.end.TurnEnd.{TurnEnd}
 use Rattle.sc_core.specs.declared.end.TurnEnd.TheVariants as end
@@ -36,19 +36,24 @@ at_start problem lists book goal = record { problem = problem; seen = none_seen 
 abbrev pub look_told : Seen → GivenRow → Seen
 look_told seen row = prefixes row.lengths seen
 
--- one look for each row and, where the run has ended, one more, of all that is seen
+-- one look for each row and, where the run has ended, the last once more
 abbrev pub looks_led : Option Outcome → List GivenRow → Seen → List Seen
 looks_led None rows seen = map (look_told seen) rows
-looks_led (Some o) rows seen = map (look_told seen) rows ++ seen ∷ []
+looks_led (Some o) rows seen = looks_of rows seen
 
 -- the numbers are lengths of fronts of the lists, one each
 abbrev pub AreLengthsIn : Seen → GivenRow → Type 0
 AreLengthsIn seen row = AllZip (λ (n : ℕ) (versions : List ClaimedStructure). n ≤ length versions) row.lengths seen
 
--- the run is that over the looks that its rows tell, each of fronts of what is seen
+-- of each finder no fewer versions were seen at the later row
+abbrev pub SeesNoFewer : GivenRow → GivenRow → Type 0
+SeesNoFewer earlier later = AllZip (λ (m n : ℕ). m ≤ n) earlier.lengths later.lengths
+
+-- the run is that over the looks that its rows tell, each of fronts of what is seen, which never shrink
 pub record IsReached (problem : Stated) (seen : Seen) (run : Run) : Type 0 where
   pub is_run : IsRun problem (looks_led run.ended run.given seen) run
   pub told : AllByRecursion (AreLengthsIn seen) run.given
+  pub grow : AllPairs SeesNoFewer run.given
 
 -- each clause that was put in sos was given or deleted by its last turn, where the run over those looks has that turn
 abbrev pub LeaveInTimeSoFar : Stated → Seen → Run → Type 0

@@ -9,6 +9,9 @@ use Rattle.sc_core_rules.specs.declared.row.Outcome.{Outcome}
 use Rattle.sc_core_rules.specs.declared.row.Outcome.TheVariants.{Proof}
 use Rattle.sc_text_run_rules.specs.RunValue.{RunValue}
 use Rattle.sc_text_run_rules.specs.RunText.{run_text}
+use Rattle.sc_core_rules.specs.Selection.{Seen}
+use Rattle.sc_worker.specs.declared.plan.Plan.{Plan}
+use Rattle.sc_worker.specs.FinderList.{IsNeverSpent}
 use Rattle.sc_world.specs.Recorded.{IsRecord}
 use Rattle.sc_top.specs.NoModel.{HasNoModel}
 use Rattle.sc_top.specs.Answers.{most_bytes}
@@ -19,24 +22,31 @@ use Rattle.sc_top.specs.declared.answer.Answer.TheVariants.{ProofChecked, NotAPr
 abbrev pub spelled_problem : List ℕ → Result Stated Place
 spelled_problem bytes = elim (nat_lt most_bytes (length bytes)) [ true ↦ Err (place most_bytes TooLong) | false ↦ problem_of bytes ]
 
--- The bytes spell a problem, and the text is that of the run of it, which ended so. Where that is with a proof, the input
--- clauses can't all be true.
-pub record HasRun (o : Outcome) (text : List ℕ) (bytes : List ℕ) : Type 0 where
+-- The bytes spell a problem, and the text is that of a run of it by the plan, which ended so. Where that is with a proof,
+-- the input clauses can't all be true.
+pub record HasRun (plan : Plan) (o : Outcome) (text : List ℕ) (bytes : List ℕ) : Type 0 where
   pub problem : Stated
   pub is_read : spelled_problem bytes ≡ Ok problem
+  pub versions : Seen
   pub run : RunValue
-  pub recorded : IsRecord problem run
+  pub recorded : IsRecord problem plan versions run
   pub ended : run.outcome ≡ o
   pub printed : text ≡ run_text problem.symbols run
   pub no_model : o ≡ Proof → HasNoModel problem.inputs
 
--- the answer that the bytes decide, where the problem that they spell is to be proved
-abbrev pub IsProveAnswer : List ℕ → Answer → Type 0
-IsProveAnswer bytes (ProofChecked n) = ⊥
-IsProveAnswer bytes (NotAProof k) = ⊥
-IsProveAnswer bytes (Ran o text) = HasRun o text bytes
-IsProveAnswer bytes (Model m) = ⊥
-IsProveAnswer bytes (InputRefused p) = spelled_problem bytes ≡ Err p
-IsProveAnswer bytes WordsRefused = ⊥
-IsProveAnswer bytes ReadFault = ⊥
-IsProveAnswer bytes OutOfMemory = ⊥
+-- an answer to the bytes, where the problem that they spell is to be proved by the plan: where a search for a model is
+-- spent another may be one too
+abbrev pub IsProveAnswer : Plan → List ℕ → Answer → Type 0
+IsProveAnswer plan bytes (ProofChecked n) = ⊥
+IsProveAnswer plan bytes (NotAProof k) = ⊥
+IsProveAnswer plan bytes (Ran o text) = HasRun plan o text bytes
+IsProveAnswer plan bytes (Model m) = ⊥
+IsProveAnswer plan bytes (InputRefused p) = spelled_problem bytes ≡ Err p
+IsProveAnswer plan bytes WordsRefused = ⊥
+IsProveAnswer plan bytes ReadFault = ⊥
+IsProveAnswer plan bytes OutOfMemory = ⊥
+
+-- no search for a model that the plan may ask for of the problem that the bytes spell has more nodes than the budget: then
+-- they have one answer
+abbrev pub SpellNeverSpent : Plan → List ℕ → Type 0
+SpellNeverSpent plan bytes = (problem : Stated) → spelled_problem bytes ≡ Ok problem → IsNeverSpent problem plan 1

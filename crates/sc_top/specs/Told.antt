@@ -10,20 +10,20 @@ use Rattle.sc_top.specs.declared.answer.Answer.{Answer}
 use Rattle.sc_top.specs.declared.answer.Answer.TheVariants.{ProofChecked, NotAProof, Ran, Model, InputRefused, WordsRefused, ReadFault, OutOfMemory}
 use Rattle.sc_top_words.specs.Words.{Asks}
 use Rattle.sc_top.specs.Answers.{status_of, text_of, IsAnswerTo}
-use Rattle.sc_top.specs.Runs.{IsProveAnswer}
+use Rattle.sc_top.specs.Runs.{IsProveAnswer, SpellNeverSpent}
 use Rattle.sc_top.specs.Models.{IsModelAnswer}
 
 -- an answer to the bytes, for the command
 abbrev pub IsAnswerBy : Command → List ℕ → Answer → Type 0
 IsAnswerBy command.Check bytes a = IsAnswerTo bytes a
-IsAnswerBy command.Prove bytes a = IsProveAnswer bytes a
+IsAnswerBy (command.Prove plan) bytes a = IsProveAnswer plan bytes a
 IsAnswerBy (command.Model size nodes) bytes a = IsModelAnswer size nodes bytes a
 
 -- the bytes decide one answer for the command; a search for a model may be given up where its budget is spent
-abbrev pub IsDecisive : Command → Type 0
-IsDecisive command.Check = ⊤
-IsDecisive command.Prove = ⊤
-IsDecisive (command.Model size nodes) = ⊥
+abbrev pub IsDecisive : Command → List ℕ → Type 0
+IsDecisive command.Check bytes = ⊤
+IsDecisive (command.Prove plan) bytes = SpellNeverSpent plan bytes
+IsDecisive (command.Model size nodes) bytes = ⊥
 
 -- the words ask for a command, and the answer is one to the bytes
 abbrev pub IsAnswerFor : List (String Global) → List ℕ → Answer → Type 0
@@ -92,9 +92,9 @@ pub record IsCutShort (words : List (String Global)) (told : Option (List ℕ)) 
   pub stands : Stands words told before now answer
   pub part : GrowsByPart old new (text_of answer)
 
--- the answer that the bytes decide was written, unless a fault of the source or want of memory came between
+-- where the bytes decide an answer, it was written, unless a fault of the source or want of memory came between
 abbrev pub IsDecided : Command → ℕ → Option (List ℕ) → Option (List ℕ) → ℕ → List ℕ → Type 0
-IsDecided command room old new status bytes = (a : Answer) → IsAnswerBy command bytes a → IsWritten room old new status a ⊎ (status ≡ 5) ⊎ (status ≡ 7)
+IsDecided command room old new status bytes = IsDecisive command bytes → (a : Answer) → IsAnswerBy command bytes a → IsWritten room old new status a ⊎ (status ≡ 5) ⊎ (status ≡ 7)
 
 -- an answer to the bytes was written whole
 abbrev pub IsToldOf : Command → ℕ → Option (List ℕ) → Option (List ℕ) → ℕ → List ℕ → Type 0

@@ -4,6 +4,8 @@ use Rattle.std.specs.List.{AllZip, list_all}
 use Rattle.std.specs.Str.Parse.{digits_value}
 use Rattle.std.specs.declared.alloc.Global.{Global}
 use Rattle.sc_input_rules.specs.Tokens.{is_digit}
+use Rattle.sc_worker.specs.declared.plan.Plan.{Plan}
+use Rattle.sc_worker.specs.Plans.{IsPlan}
 use Rattle.sc_top_words.specs.declared.commands.Command.{Command}
 use Rattle.sc_top_words.specs.declared.commands.Command.TheVariants.{Check, Prove, Model}
 
@@ -14,9 +16,15 @@ AreWords texts words = AllZip (λ word text. string_bytes word ≡ text) words t
 abbrev pub IsCheck : List (String Global) → Type 0
 IsCheck words = AreWords (codes "check" ∷ []) words
 
--- a proof is sought without a finder beside the prover, and without candidates for a model
-abbrev pub IsProve : List (String Global) → Type 0
-IsProve words = AreWords (codes "prove" ∷ codes "--finders" ∷ codes "0" ∷ codes "--candidates" ∷ codes "0" ∷ []) words
+-- no finder beside the prover, models of size 2 from a budget of 100,000 nodes, of so many input clauses at most
+abbrev pub plan_with : ℕ → Plan
+plan_with candidates = record { finders = 0; first_size = 2; nodes = 100000; candidates = candidates }
+
+-- a proof is sought without a finder beside the prover, with 128 candidates for a model or with none
+abbrev pub AskForProof : List (String Global) → Plan → Type 0
+AskForProof words plan =
+    (AreWords (codes "prove" ∷ codes "--finders" ∷ codes "0" ∷ []) words × (plan ≡ plan_with 128))
+    ⊎ (AreWords (codes "prove" ∷ codes "--finders" ∷ codes "0" ∷ codes "--candidates" ∷ codes "0" ∷ []) words × (plan ≡ plan_with 0))
 
 -- ---- options
 
@@ -60,11 +68,11 @@ AskForModel (word ∷ words) size nodes = (string_bytes word ≡ codes "model") 
 -- the words ask for the command
 abbrev pub Asks : List (String Global) → Command → Type 0
 Asks words Check = IsCheck words
-Asks words Prove = IsProve words
+Asks words (Prove plan) = AskForProof words plan
 Asks words (Model size nodes) = AskForModel words size nodes
 
--- a size that is asked for is from 1 to 8
+-- the numbers that are asked for are in their ranges, and no finder is to run beside the prover
 abbrev pub IsInRange : Command → Type 0
 IsInRange Check = ⊤
-IsInRange Prove = ⊤
+IsInRange (Prove plan) = IsPlan plan × (plan.finders ≡ 0)
 IsInRange (Model size nodes) = (1 ≤ size) × (size ≤ 8)

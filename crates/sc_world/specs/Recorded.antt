@@ -1,5 +1,5 @@
 -- When the text of a run tells a run of the given-clause machine.
-use Rattle.std.specs.Prelude.{◌≡◌, ◌⊎◌, ℕ, List, [], ◌∷◌, ◌++◌, All, Some, length, map}
+use Rattle.std.specs.Prelude.{◌≡◌, ◌⊎◌, ℕ, ◌-◌, List, [], ◌∷◌, ◌++◌, All, Option, Some, length, map, min, take}
 use Rattle.std.specs.List.{AllZip, AllByRecursion}
 use Rattle.sc_term.specs.declared.Line.{Line}
 use Rattle.sc_term.specs.Numbering.{numbered}
@@ -16,15 +16,18 @@ use Rattle.sc_core_rules.specs.Order.{Where}
 use Rattle.sc_core_rules.specs.declared.row.GivenRow.{GivenRow}
 use Rattle.sc_core_rules.specs.declared.row.KeptRow.{KeptRow}
 use Rattle.sc_core_rules.specs.declared.row.Outcome.{Outcome}
-use Rattle.sc_core_rules.specs.declared.row.Outcome.TheVariants.{Proof}
+use Rattle.sc_core_rules.specs.declared.row.Outcome.TheVariants.{Proof, SosEmpty, GivenLimit, KeptLimit, WorkLimit}
 use Rattle.sc_core_rules.specs.Selection.{Seen, IsGuide, ratio}
 use Rattle.sc_core_rules.specs.Turn.{Run}
 use Rattle.sc_core_rules.specs.Run.{IsRun, Grow, looks_of}
 use Rattle.sc_core_laws.specs.TrueRows.{IsTrueRow}
 use Rattle.sc_core_laws.specs.LeavesInTime.{WasPut, HasTurn, WasGivenBy, IsDeletedBy, last_turn}
-use Rattle.sc_text_run_rules.specs.declared.run.FinderEnd.TheVariants.{Done}
+use Rattle.sc_text_run_rules.specs.declared.run.FinderEnd.{FinderEnd}
+use Rattle.sc_text_run_rules.specs.declared.run.FinderEnd.TheVariants.{Done, Stopped, Wide}
 use Rattle.sc_text_run_rules.specs.declared.run.MarkRow.{MarkRow}
 use Rattle.sc_text_run_rules.specs.RunValue.{VersionValue, RunValue, entries_of}
+use Rattle.sc_worker.specs.declared.plan.Plan.{Plan}
+use Rattle.sc_worker.specs.FinderList.{candidates_of, versions_of, IsWide, IsWork}
 
 -- ---- versions
 
@@ -100,12 +103,43 @@ pub record Tells (problem : Stated) (versions : Seen) (text : RunValue) : Type 0
   pub proof : TellsEnd problem versions run text.outcome text.proof text.marks
   pub in_time : LeaveInTime problem versions text.given text.kept
 
--- one finder, of which no version is seen
-abbrev pub no_version : Seen
-no_version = [] ∷ []
+-- ---- a finder that works between the turns
 
--- The text records the run of a problem without candidates: the list of the one finder, which has nothing to work and
--- is done, has no version, and the text tells the run over looks at that.
-pub record IsRecord (problem : Stated) (text : RunValue) : Type 0 where
-  pub tells : Tells problem no_version text
-  pub ends : text.ends ≡ Done ∷ []
+-- the turns after which the run went on: each that wrote a row, but for one that ended the run
+abbrev pub turns_went : Outcome → ℕ → ℕ
+turns_went Proof rows = rows - 1
+turns_went SosEmpty rows = rows
+turns_went (GivenLimit n) rows = rows
+turns_went (KeptLimit n) rows = rows
+turns_went (WorkLimit n) rows = rows - 1
+
+-- in its turn what was published for the candidates worked before it was seen, all of it
+abbrev pub SeesAll : List (Option ClaimedStructure) → GivenRow → Type 0
+SeesAll answers row = row.lengths ≡ length (versions_of (take (row.turn - 1) answers)) ∷ []
+
+-- how the finder ends that worked so many of its candidates
+abbrev pub EndsInline : Stated → Plan → ℕ → FinderEnd → Type 0
+EndsInline problem plan worked end =
+    Where (IsWide problem plan 1) (end ≡ Wide)
+    (Where (worked ≡ length (candidates_of problem plan)) (end ≡ Done) (end ≡ Stopped))
+
+-- After each turn after which the run went on, the one finder works its next candidate, if it has one and isn't wide, and
+-- every turn sees all that was published before it.
+pub record IsInline (problem : Stated) (plan : Plan) (text : RunValue) (versions : List ClaimedStructure) : Type 0 where
+  pub worked : ℕ
+  pub answers : List (Option ClaimedStructure)
+  pub work : IsWork problem plan 1 worked answers
+  pub many : (¬ IsWide problem plan 1) → worked ≡ min (turns_went text.outcome (length text.given)) (length (candidates_of problem plan))
+  pub printed : versions ≡ versions_of answers
+  pub looks : AllByRecursion (SeesAll answers) text.given
+  pub end : FinderEnd
+  pub ends : EndsInline problem plan worked end
+  pub told : text.ends ≡ end ∷ []
+
+-- The text records the run of a problem with one finder that works between the turns, whose list is printed: it tells the
+-- run over the looks at that list.
+pub record IsRecord (problem : Stated) (plan : Plan) (versions : Seen) (text : RunValue) : Type 0 where
+  pub list : List ClaimedStructure
+  pub one : versions ≡ list ∷ []
+  pub tells : Tells problem versions text
+  pub inline : IsInline problem plan text list

@@ -1,0 +1,15 @@
+//! The marks of clauses in one version, by clause number.
+//!
+//! `Marks` holds a version and, for each of some clauses, whether it is true there. `mark` adds a clause, `of` tells its
+//! mark, `forget` drops one, and `carry` goes on to another version, in which every clause that is marked is marked anew.
+//! Contracts see the version, its name and the marked clauses (`specs/Marked`).
+//!
+//! It stands on the truth of a clause in tables (`sc_interp`). Callers may rest on this: after any list of calls each
+//! marked number has the mark, by definition, of the clause that it was marked with, in the one version that all marks
+//! name; a number isn't marked exactly where `of` tells nothing. What takes memory says so by its type, and where memory
+//! is wanting the marks stay as they were.
+#![tactic(auto)]
+
+mod marks;
+
+pub use marks::{Mark, Marks};

@@ -1,0 +1,20 @@
+//! A model finder: which input clauses it tries to make true at once, and what it publishes.
+//!
+//! A finder works candidates one after another: the first input clauses that weigh at most 100. Where the claims so far
+//! have a model together with the candidate, it joins them, and the version of the first model is what is published. A
+//! candidate is skipped where there is no such model, where the search for one was given up, or where there are too many
+//! ground instances. `Chooser::next` works the next one. `specs/FinderList` says which lists a finder may publish.
+//!
+//! It stands on the search for first models (`sc_find`) and on versions (`sc_interp`). Callers may rest on this: `next` is
+//! the definition of a finder's answers, candidate by candidate (`IsWorked`); what it tells joined is a version over the
+//! problem's symbols. Where memory is wanting the chooser stays as it was. Its memory is that of the claims; a job is made
+//! anew for each candidate.
+#![tactic(auto)]
+
+mod choosing;
+mod plan;
+mod worked;
+
+pub use choosing::Chooser;
+pub use plan::Plan;
+pub use worked::{Skip, Worked};
