@@ -11,5 +11,6 @@
 #![tactic(auto)]
 
 mod marks;
+mod truths;
 
 pub use marks::{Mark, Marks};
