@@ -1,4 +1,4 @@
-use Rattle.std.proofs.Common.{not, nat_eq}
+use Rattle.std.proofs.Common.{not, nat_eq, rules}
 use Rattle.std.proofs.lemmas.Fn.{filter_same}
 use Rattle.sc_term.specs.declared.Numbered.{Numbered}
 use Rattle.sc_mark.proofs.truths.leave_out.Goals as goal
