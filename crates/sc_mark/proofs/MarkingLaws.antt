@@ -1,6 +1,6 @@
 -- What marks keep through each call, and what they tell.
 use Rattle.std.proofs.Common.{◌≡◌, ◌≢◌, ◌∙◌, sym, ap, subst, ℕ, ◌+◌, ◌<◌, not, nat_eq, Option, None, Some, List, [], ◌∷◌, ◌++◌, length, take, get_or, arith}
-use Rattle.std.specs.List.{All, AllPairs, Contains}
+use Rattle.std.specs.List.{AllPairs, Contains}
 use Rattle.std.proofs.lemmas.List.{take_more, get_or-take, get_or_default, length-take-le}
 use Rattle.std.proofs.lemmas.List.Elements.{All-push, All-filter, Contains-get_or}
 use Rattle.std.proofs.lemmas.List.Kept.{AllPairs-filter}
@@ -9,9 +9,7 @@ use Rattle.sc_term.specs.declared.Clause.{Clause}
 use Rattle.sc_term.specs.declared.Numbered.{Numbered}
 use Rattle.sc_term.specs.Clause.{IsCanonical, IsWithinLimits}
 use Rattle.sc_interp.specs.declared.plain.Truth.{Truth}
-use Rattle.sc_interp.specs.declared.plain.VersionName.{VersionName}
 use Rattle.sc_interp.specs.Structure.{Structure}
-use Rattle.sc_interp.specs.Versions.{ClaimedStructure}
 use Rattle.sc_interp.specs.Marks.{IsMark}
 use Rattle.sc_mark.specs.Marked.{Marked, HasNumber, HasMark, HasTruth, without_mark, without_number}
 use Rattle.sc_mark.specs.Marking.{truth_at, AreSame, IsPut, AreTruths, MayBeMarked, IsMarking}
@@ -85,14 +83,6 @@ module _ (m : Marked) (old new : List (Option Truth)) (w v : ℕ) (h : IsMarking
         clauses = subst MayBeMarked (sym are) less;
         register = wide ∙ h.register;
       }
-
-  -- all that were marked are marked anew in another version
-  pub marked_anew : (name : VersionName) (to version : ClaimedStructure) → AreTruths to.tables m.clauses new → version ≡ to → IsMarking (record m { name = name; version = version }) new v
-  marked_anew name to version truths is = record {
-    truths = subst (λ (u : ClaimedStructure). AreTruths u.tables m.clauses new) (sym is) truths;
-    clauses = h.clauses;
-    register = wide ∙ h.register;
-  }
 
 -- a clause that isn't marked needn't be forgotten
 pub not_marked : (m : Marked) (ts : List (Option Truth)) (w n : ℕ) → IsMarking m ts w → truth_at ts n ≡ None → m ≡ without_mark m n
