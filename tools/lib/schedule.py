@@ -9,7 +9,7 @@ from settings import ROWS, make, text_of
 # sizes in the order in which they are tried, each with its share: those that small numbers of nodes don't settle and
 # great ones may have the most
 SIZES = {2: 1, 1: 1, 3: 1, 4: 2, 5: 3, 6: 3, 7: 2, 8: 1}
-NODES = (100000, 10000000)
+NODES = (10000, 10000000)
 FIRST_ROUND = 0.25
 # nothing gets less: starting the program takes a part of it on a busy machine
 LEAST = 0.5

@@ -6,6 +6,7 @@ ghost use Rattle.sc_input.specs.Refusal.{Refuses};
 ghost use Rattle.sc_input.specs.Answer.{read_at, answer, Tells};
 ghost use Rattle.sc_text_run_rules.specs.RunValue.{run_value};
 ghost use Rattle.sc_text_run_rules.specs.RunReading.{run_of};
+ghost use Rattle.sc_text_run_section.specs.OverSymbols.{HaveTables};
 ghost use Rattle.sc_text.specs.RunAnswer.{clipped_section, judged_tokens};
 
 use crate::read::tokens_behind;
@@ -19,7 +20,8 @@ use sc_text_run_section::read_run_section;
 use std::alloc::Global;
 
 fn run_at(run: RunText, at: Result<u64, Place>) -> Result<(RunText, u64), InputError>
-    ensures { Tells (λ x. (run_value x.0, x.1)) result (read_at (run_value run) at) }
+    ensures value { Tells (λ x. (run_value x.0, x.1)) result (read_at (run_value run) at) }
+    ensures run { IfOk result (λ x. x.0 ≡ run) }
 {
     match at {
         Ok(at) => Ok((run, at)),
@@ -36,6 +38,7 @@ fn run_up_to(
 ) -> Result<(RunText, Result<u64, Place>), Stop>
     ensures ok { IfOk result (λ x. answer behind (clipped_section sig.now tokens.now) ≡ read_at (run_value x.0) x.1) }
     ensures err { IfErr result (λ e. Fails e (clipped_section sig.now tokens.now)) }
+    ensures tables { IfOk result (λ x. HaveTables sig.now x.0.lists) }
 {
     let (run, left) = read_run_section(alloc, sig, tokens)?;
     Ok((run, first_byte(behind, left)))
@@ -50,7 +53,8 @@ fn read_up_to(
     behind: Result<u64, Place>,
     tokens: &[Token],
 ) -> Result<(RunText, u64), InputError>
-    ensures { Tells (λ x. (run_value x.0, x.1)) result (answer behind (clipped_section sig.now tokens.now)) }
+    ensures value { Tells (λ x. (run_value x.0, x.1)) result (answer behind (clipped_section sig.now tokens.now)) }
+    ensures tables { IfOk result (λ x. HaveTables sig.now x.0.lists) }
 {
     match run_up_to(alloc, sig, behind, tokens) {
         Ok((run, at)) => run_at(run, at),
@@ -70,7 +74,8 @@ fn read_tokens(
     end: u64,
     tokens: &[Token],
 ) -> Result<(RunText, u64), InputError>
-    ensures { Tells (λ x. (run_value x.0, x.1)) result (judged_tokens sig.now end tokens.now) }
+    ensures value { Tells (λ x. (run_value x.0, x.1)) result (judged_tokens sig.now end tokens.now) }
+    ensures tables { IfOk result (λ x. HaveTables sig.now x.0.lists) }
 {
     match first_limit(alloc, sig, tokens)? {
         None => read_up_to(alloc, sig, Ok(end), tokens),
@@ -82,7 +87,8 @@ fn read_tokens(
 }
 
 /// The run that the bytes from one on spell over the symbols of the signature, as `run_of` defines it; behind the last
-/// byte stands no run. Time is in proportion to the bytes.
+/// byte stands no run. The tables of each version are those of its size over the symbols (`HaveTables`). Time is in
+/// proportion to the bytes.
 ///
 /// # Errors
 /// The first fault: the byte at which the text is refused, and why; or want of memory.
@@ -94,6 +100,7 @@ pub fn read_run(
     from: u64,
 ) -> Result<RunText, InputError>
     ensures ok { IfOk result (λ run. run_of sig.now bytes.now from ≡ Ok (run_value run)) }
+    ensures tables { IfOk result (λ run. HaveTables sig.now run.lists) }
     ensures refused { IfErr result (λ e. Refuses e (run_of sig.now bytes.now from)) }
 {
     let tokens = tokens_behind(alloc, bytes, from)?;

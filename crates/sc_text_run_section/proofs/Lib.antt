@@ -16,3 +16,4 @@ pub mod PrefixOfRows
 pub mod PrefixOfVersions
 pub mod PrefixOfRuns
 pub mod RowsSpelt
+pub mod TablesOver

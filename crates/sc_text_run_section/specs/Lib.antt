@@ -2,3 +2,4 @@ pub mod Expected
 pub mod Entries
 pub mod Filling
 pub mod Seen
+pub mod OverSymbols

@@ -6,6 +6,7 @@ ghost use Rattle.sc_text_section.specs.Clipped.{seen_by};
 ghost use Rattle.sc_text_rules.specs.ProofGrammar as grammar;
 ghost use Rattle.sc_text_run_rules.specs.RunValue.{run_value};
 ghost use Rattle.sc_text_run_rules.specs.RunSection as of;
+ghost use Rattle.sc_text_run_section.specs.OverSymbols.{HaveTables};
 ghost use Rattle.sc_text_run_section.specs.Seen.{heading_of, proof_of, clipped_proof, clipped_run};
 
 use crate::number::number_from;
@@ -100,7 +101,8 @@ fn run_section<'t, 'a>(
     sig: &Signature,
     tokens: &'t [Token<'a>],
 ) -> Result<(RunText, &'t [Token<'a>]), Stop>
-    ensures { Gives (λ x. (run_value x.0, x.1.now)) result (seen_by clipped_run (of.run_section sig.now tokens.now)) }
+    ensures value { Gives (λ x. (run_value x.0, x.1.now)) result (seen_by clipped_run (of.run_section sig.now tokens.now)) }
+    ensures tables { IfOk result (λ x. HaveTables sig.now x.0.lists) }
 {
     let (heading, rest) = run_heading(tokens)?;
     let (lists, rest) = read_lists(alloc, sig, heading.lists, rest)?;
@@ -122,13 +124,15 @@ fn run_section<'t, 'a>(
 
 /// The run of a run text over these symbols, behind which nothing stands, and no tokens. The number of a step, of a path
 /// or of a variable that is greater than 4,294,967,295 is answered as that number. It stops for want of memory, or at
-/// the first token that `run_section` doesn't allow, or that stands behind it.
+/// the first token that `run_section` doesn't allow, or that stands behind it. The tables of each version are those of its
+/// size over the symbols (`HaveTables`).
 pub fn read_run_section<'t, 'a>(
     alloc: Global,
     sig: &Signature,
     tokens: &'t [Token<'a>],
 ) -> Result<(RunText, &'t [Token<'a>]), Stop>
-    ensures { Gives (λ x. (run_value x.0, x.1.now)) result (seen_by clipped_run (grammar.alone (of.run_section sig.now tokens.now))) }
+    ensures value { Gives (λ x. (run_value x.0, x.1.now)) result (seen_by clipped_run (grammar.alone (of.run_section sig.now tokens.now))) }
+    ensures tables { IfOk result (λ x. HaveTables sig.now x.0.lists) }
 {
     let (run, rest) = run_section(alloc, sig, tokens)?;
     if rest.is_empty() {

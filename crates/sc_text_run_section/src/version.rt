@@ -1,12 +1,14 @@
 //! Reading versions.
 
-ghost use Rattle.std.specs.Prelude.{◌≡◌, ◌≤◌, ◌<◌, ◌-◌, ◌^◌, ◌==◌, if◌then◌else◌, length, map, replicate, [], IfOk, IfErr, OnOk};
+ghost use Rattle.std.specs.Prelude.{◌≡◌, ◌≤◌, ◌<◌, ◌-◌, ◌^◌, ◌==◌, if◌then◌else◌, List as AList, length, map, replicate, [], IfOk, IfErr, OnOk};
 ghost use Rattle.sc_interp.specs.Structure.{zeros};
 ghost use Rattle.sc_input_scan.specs.Told.{Gives};
 ghost use Rattle.sc_input_scan.specs.declared.stop.Stop.TheVariants.{Memory};
 ghost use Rattle.sc_text_run_rules.specs.RunValue.{version_value};
 ghost use Rattle.sc_text_run_rules.specs.VersionGrammar as of;
 ghost use Rattle.sc_text_run_rules.specs.RunSection as whole;
+ghost use Rattle.sc_term.specs.declared.symbol.Symbol.{Symbol as ASymbol};
+ghost use Rattle.sc_text_run_section.specs.OverSymbols.{HasTables, HaveTables};
 ghost use Rattle.sc_text_run_section.specs.Seen.{next_of, row_of, placed_of, with_version};
 
 use crate::fill::fill;
@@ -116,7 +118,8 @@ fn version_behind<'t, 'a>(
     tokens: &'t [Token<'a>],
 ) -> Result<(VersionText, &'t [Token<'a>]), Stop>
     requires { tables ≡ zeros sig.now tables.size }
-    ensures { Gives (λ x. (version_value x.0, x.1.now)) result (of.version_behind sig.now tables.size tokens.now) }
+    ensures value { Gives (λ x. (version_value x.0, x.1.now)) result (of.version_behind sig.now tables.size tokens.now) }
+    ensures tables { IfOk result (λ x. HasTables sig.now x.0) }
 {
     let mut tables = tables;
     let size = tables.size();
@@ -143,6 +146,7 @@ fn version<'t, 'a>(
     ensures finder { IfOk result (λ x. (next.finder ≤ x.0.finder) × (x.0.finder ≤ lists)) }
     ensures place { IfOk result (λ x. x.0.place < 2 ^ 32) }
     ensures value { Gives (λ x. (placed_of x.0, x.1.now)) result (of.a_version sig.now lists (next_of next) tokens.now) }
+    ensures tables { IfOk result (λ x. HasTables sig.now x.0.version) }
 {
     let (row, rest) = version_row(alloc, sig, lists, next, tokens)?;
     let VersionRow {
@@ -165,6 +169,7 @@ fn put(lists: &mut [List<VersionText>], placed: PlacedVersion) -> Result<(), Sto
     requires there { placed.finder ≤ length lists.old }
     ensures value { OnOk result (map (map version_value) lists.new ≡ with_version (placed.finder - 1) (version_value placed.version) (map (map version_value) lists.old)) }
     ensures many { length lists.new ≡ length lists.old }
+    ensures tables { OnOk result ((symbols : AList ASymbol) → HasTables symbols placed.version → HaveTables symbols lists.old → HaveTables symbols lists.new) }
     ensures memory { IfErr result (λ e. e ≡ Memory) }
 {
     let at = placed.finder as usize - 1;
@@ -193,7 +198,8 @@ pub fn read_lists<'t, 'a>(
     tokens: &'t [Token<'a>],
 ) -> Result<(List<List<VersionText>>, &'t [Token<'a>]), Stop>
     requires { count ≤ 8 }
-    ensures { Gives (λ x. (map (map version_value) x.0, x.1.now)) result (whole.version_lists sig.now count tokens.now) }
+    ensures value { Gives (λ x. (map (map version_value) x.0, x.1.now)) result (whole.version_lists sig.now count tokens.now) }
+    ensures tables { IfOk result (λ x. HaveTables sig.now x.0) }
 {
     let mut lists = empty_lists(alloc, count)?;
     let mut next = Next {
