@@ -11,4 +11,4 @@
 
 mod guide;
 
-pub use guide::Guide;
+pub use guide::{Guide, OPENING};
