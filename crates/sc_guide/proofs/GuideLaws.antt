@@ -1,6 +1,6 @@
 -- The guide after one more version is the old guide, or that version where it is better.
-use Rattle.std.proofs.Common.{◌≡◌, ◌∙◌, sym, ap, subst, refl, ℕ, zero, suc, ◌+◌, ◌<◌, ◌^◌, ◌⊎◌, inl, inr, List, [], ◌∷◌, ◌++◌, length, replicate, Some, arith}
-use Rattle.std.specs.List.{All}
+use Rattle.std.proofs.Common.{◌≡◌, ◌∙◌, sym, ap, subst, refl, ℕ, ◌+◌, ◌-◌, ◌<◌, ◌≤◌, ◌^◌, ◌⊎◌, inl, inr, List, [], ◌∷◌, ◌++◌, length, replicate, slice_get, Option, Some, arith}
+use Rattle.std.specs.Option.{IsSomeAnd}
 use Rattle.std.proofs.lemmas.List.Elements.{All-replicate}
 use Rattle.sc_term.specs.Numbering.{numbered}
 use Rattle.sc_input_rules.specs.Problem.{Stated}
@@ -9,6 +9,7 @@ use Rattle.sc_interp.specs.Versions.{ClaimedStructure, opening}
 use Rattle.sc_core_rules.specs.Order.{Where}
 use Rattle.sc_core_rules.specs.Selection.{Seen, IsAt, IsBetter, IsGuide, opening_name}
 use Rattle.sc_guide.specs.Guided.{grown, version_named, IsNamed, AreCounted, IsKept}
+use Rattle.sc_guide.proofs.ListLaws.{numbered_at}
 use Rattle.sc_guide.proofs.SeenLaws.{next_of, named_at, opening_not_seen, not_all_empty, new_at, still_at, at_grown, counted_grown}
 
 -- ---- the order
@@ -123,3 +124,17 @@ next_kept first seen after finder w versions name new next e few new_is after_is
     by : Where ((name ≡ opening_name) ⊎ IsBetter (next_of finder versions) w name (version_named first seen name)) (next ≡ next_of finder versions) (next ≡ name) → IsKept first (grown seen finder w) next
     by (inl (better, is)) = subst (IsKept first (grown seen finder w)) (sym is) (becomes_kept first seen finder w versions name e few kept better)
     by (inr (worse, is)) = subst (IsKept first (grown seen finder w)) (sym is) (stays_kept first seen finder w versions name e few kept worse)
+
+-- the same, as the code knows it: the list of the finder by its place, and the new version's place by its length
+pub added_kept : (first : ClaimedStructure) (seen shown after : Seen) (finder place : ℕ) (w : ClaimedStructure) (versions : List ClaimedStructure) (name next : VersionName)
+    → 1 ≤ finder → slice_get seen (finder - 1) ≡ Some versions → IsSomeAnd (numbered seen finder) (λ (vs : List ClaimedStructure). length vs < 2 ^ 31) → place ≡ length versions
+    → shown ≡ seen → after ≡ grown seen finder w → IsKept first seen name
+    → Where ((name ≡ opening_name) ⊎ IsBetter (record { finder = finder; place = place }) w name (version_named first shown name)) (next ≡ record { finder = finder; place = place }) (next ≡ name)
+    → IsKept first after next
+added_kept first seen shown after finder place w versions name next some get few place_is shown_is after_is kept which =
+    let e : numbered seen finder ≡ Some versions = numbered_at seen finder (omega (arith, some)) ∙ get in
+    let short : length versions < 2 ^ 31 = subst (λ (o : Option (List ClaimedStructure)). IsSomeAnd o (λ (vs : List ClaimedStructure). length vs < 2 ^ 31)) e few in
+    next_kept first seen after finder w versions name (record { finder = finder; place = place }) next e short (λ i. record { finder = finder; place = place_is i }) after_is kept
+    (subst
+    (λ (s : Seen). Where ((name ≡ opening_name) ⊎ IsBetter (record { finder = finder; place = place }) w name (version_named first s name)) (next ≡ record { finder = finder; place = place }) (next ≡ name))
+    shown_is which)
