@@ -94,7 +94,7 @@ becomes_kept first seen finder w versions name e few kept better =
     record {
       named = inr (subst (IsAt (grown seen finder w) (next_of finder versions)) is here);
       guide = λ problem first_is. subst (IsGuide problem (grown seen finder w) (next_of finder versions)) is
-        (becomes_guide problem seen finder w versions name (version_named first seen name) e better (kept.guide problem first_is));
+          (becomes_guide problem seen finder w versions name (version_named first seen name) e better (kept.guide problem first_is));
       counted = counted_grown seen finder w versions e few kept.counted;
     }
 
@@ -110,7 +110,7 @@ stays_kept first seen finder w versions name e few kept worse = by kept.named
         record {
           named = inr (subst (IsAt (grown seen finder w) name) is here);
           guide = λ problem first_is. subst (IsGuide problem (grown seen finder w) name) is
-            (stays_guide problem seen finder w versions name (version_named first seen name) e worse (kept.guide problem first_is));
+              (stays_guide problem seen finder w versions name (version_named first seen name) e worse (kept.guide problem first_is));
           counted = counted_grown seen finder w versions e few kept.counted;
         }
 

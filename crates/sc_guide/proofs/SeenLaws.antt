@@ -98,7 +98,6 @@ pub at_grown : (seen : Seen) (finder : ℕ) (w : ClaimedStructure) (versions : L
     → IsAt (grown seen finder w) name v → IsAt seen name v ⊎ ((name ≡ next_of finder versions) × (v ≡ w))
 at_grown seen finder w versions name v e h = by (compared name.finder finder)
   where
-
     other : name.finder ≢ finder → IsAt seen name v
     other ne =
         subst (λ (o : Option (List ClaimedStructure)). IsSomeAnd o (λ (vs : List ClaimedStructure). slice_get vs name.place ≡ Some v)) (grown_other seen finder name.finder w versions e ne) h

@@ -15,7 +15,7 @@ invariant_of-self-2 c =
     let seen_is : lists ≡ c.args.self.now.seen = ap (λ (g : Guided). g.seen) c.self.view_is in
     let within : c.args.finder ≤ length lists = subst (λ (s : Seen). c.args.finder ≤ length s) (sym seen_is) c.requires.there in
     let get : slice_get lists (c.args.finder - 1) ≡ Some c.index.result.now =
-        slice_get-get_or lists (c.args.finder - 1) c.index.result.now (omega (arith, within, c.requires.some)) ∙ ap Some (sym c.index.ensures) in
+    slice_get-get_or lists (c.args.finder - 1) c.index.result.now (omega (arith, within, c.requires.some)) ∙ ap Some (sym c.index.ensures) in
     let few = subst (λ (s : Seen). IsSomeAnd (numbered s c.args.finder) (λ (vs : List ClaimedStructure). length vs < 2 ^ 31)) (sym seen_is) c.requires.few in
     let pushed : c.push.new.lists ≡ grown c.as_mut_slice.result.now c.args.finder c.in_ok-copied.copied = c.in_ok-push.ensures.seen in
     let after = pushed ∙ ap (λ (s : Seen). grown s c.args.finder c.in_ok-copied.copied) c.as_mut_slice.ensures.value ∙ ap (λ (v : ClaimedStructure). grown lists c.args.finder v) c.in_ok-copied.ensures in
