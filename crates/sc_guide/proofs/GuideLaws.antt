@@ -1,14 +1,14 @@
 -- The guide after one more version is the old guide, or that version where it is better.
-use Rattle.std.proofs.Common.{◌≡◌, ◌∙◌, sym, ap, subst, refl, ℕ, ◌+◌, ◌-◌, ◌<◌, ◌≤◌, ◌^◌, ◌⊎◌, inl, inr, List, [], ◌∷◌, ◌++◌, length, replicate, slice_get, Option, Some, arith}
+use Rattle.std.proofs.Common.{◌≡◌, ◌∙◌, sym, subst, refl, ℕ, ◌-◌, ◌<◌, ◌≤◌, ◌^◌, ◌⊎◌, inl, inr, List, [], length, replicate, slice_get, Option, Some, arith}
 use Rattle.std.specs.Option.{IsSomeAnd}
 use Rattle.std.proofs.lemmas.List.Elements.{All-replicate}
 use Rattle.sc_term.specs.Numbering.{numbered}
 use Rattle.sc_input_rules.specs.Problem.{Stated}
 use Rattle.sc_interp.specs.declared.plain.VersionName.{VersionName}
-use Rattle.sc_interp.specs.Versions.{ClaimedStructure, opening}
+use Rattle.sc_interp.specs.Versions.{ClaimedStructure}
 use Rattle.sc_core_rules.specs.Order.{Where}
 use Rattle.sc_core_rules.specs.Selection.{Seen, IsAt, IsBetter, IsGuide, opening_name}
-use Rattle.sc_guide.specs.Guided.{grown, version_named, IsNamed, AreCounted, IsKept}
+use Rattle.sc_guide.specs.Guided.{grown, version_named, IsNamed, IsKept}
 use Rattle.sc_guide.proofs.ListLaws.{numbered_at}
 use Rattle.sc_guide.proofs.SeenLaws.{next_of, named_at, opening_not_seen, not_all_empty, new_at, still_at, at_grown, counted_grown}
 
