@@ -12,7 +12,10 @@
 #![tactic(auto)]
 
 mod choosing;
+mod copies;
+mod light;
 mod plan;
+mod trying;
 mod worked;
 
 pub use choosing::Chooser;

@@ -1,0 +1,6 @@
+pub mod LightLaws
+pub mod TryingLaws
+pub mod KeepingLaws
+pub mod FinderLaws
+pub mod OneModel
+pub mod DecidedLaws
