@@ -10,7 +10,7 @@ use Rattle.sc_worker.proofs.choosing.Chooser.next.Goals as goal
 pub returns-then-self-clause-worked : goal.returns-then-self-clause-worked
 returns-then-self-clause-worked c =
     let same : c.as_slice-inputs.result.now ≡ c.self.inside.problem.now.inputs = c.as_slice-inputs.ensures ∙ c.inputs.ensures in
-    let is_left : IsTrue c.is_left.result = first_of (c.if-not-is_left.false, search rules) in
+    let is_left : IsTrue c.is_left.result = search (rules, c.if-not-is_left.false) in
     let tells : IsTrue c.is_left.result ↔ ((0 < c.self.inside.room) × (c.self.inside.place < length c.self.inside.problem.now.inputs))
     = subst (λ (xs : List Clause). IsTrue c.is_left.result ↔ ((0 < c.self.inside.room) × (c.self.inside.place < length xs))) same c.is_left.ensures in
     let left = left_where c.self.inside.problem.now.inputs c.self.inside.place c.self.inside.room c.is_left.result c.self.invariant.light tells in
@@ -23,7 +23,7 @@ invariant_of-self-2 c =
     let at : IsAt c.self.inside.problem.now.inputs c.self.inside.place next.result c.self.inside.room c.index-inputs-self.result c.is_left.result
     = subst (λ (xs : List Clause). IsAt xs c.self.inside.place next.result c.self.inside.room c.index-inputs-self.result c.is_left.result) same (record {
         tells = c.is_left.ensures;
-        is_left = first_of (c.if-not-is_left.false, search rules);
+        is_left = search (rules, c.if-not-is_left.false);
         here = c.index-inputs-self.is;
         same = next.ensures.same;
         within = next.ensures.within;
@@ -39,7 +39,7 @@ returns-clause-worked c =
     let at : IsAt c.self.inside.problem.now.inputs c.self.inside.place next.result c.self.inside.room c.index-inputs-self.result c.is_left.result
     = subst (λ (xs : List Clause). IsAt xs c.self.inside.place next.result c.self.inside.room c.index-inputs-self.result c.is_left.result) same (record {
         tells = c.is_left.ensures;
-        is_left = first_of (c.if-not-is_left.false, search rules);
+        is_left = search (rules, c.if-not-is_left.false);
         here = c.index-inputs-self.is;
         same = next.ensures.same;
         within = next.ensures.within;
