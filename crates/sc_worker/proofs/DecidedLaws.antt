@@ -1,10 +1,10 @@
 -- Where no search is spent, a finder's answers are decided.
-use Rattle.std.proofs.Common.{◌≡◌, ◌∙◌, sym, ap, subst, refl, ℕ, zero, suc, ◌<◌, ◌≤◌, ◌⊎◌, inl, inr, List, [], ◌∷◌, ◌++◌, length, take, drop, Option, Some, None, slice_get, append_assoc, arith}
+use Rattle.std.proofs.Common.{◌≡◌, ◌∙◌, sym, ap, subst, refl, ℕ, zero, suc, inl, inr, List, [], ◌∷◌, ◌++◌, length, take, drop, Option, Some, None, slice_get, append_assoc, arith}
 use Rattle.std.proofs.lemmas.List.{take-append-drop}
 use Rattle.sc_term.specs.declared.Numbered.{Numbered}
 use Rattle.sc_input_rules.specs.Problem.{Stated}
 use Rattle.sc_interp.specs.declared.plain.Claim.{Claim}
-use Rattle.sc_interp.specs.Structure.{Structure, IsStructure}
+use Rattle.sc_interp.specs.Structure.{Structure}
 use Rattle.sc_interp.specs.Versions.{ClaimedStructure}
 use Rattle.sc_find.specs.Models.{Task, IsFirstModel, ExceedsBudget}
 use Rattle.sc_worker.specs.declared.plan.Plan.{Plan}

@@ -1,5 +1,5 @@
 -- What working a candidate does to a chooser.
-use Rattle.std.proofs.Common.{◌≡◌, ◌∙◌, sym, ap, subst, refl, ℕ, ◌+◌, ◌-◌, ◌<◌, ◌≤◌, ◌⊎◌, inl, inr, Bool, true, false, List, [], ◌∷◌, ◌++◌, length, take, get_or, Some, slice_get, arith}
+use Rattle.std.proofs.Common.{◌≡◌, ◌∙◌, sym, ap, subst, refl, ℕ, ◌+◌, ◌-◌, ◌<◌, ◌≤◌, ◌⊎◌, inl, inr, Bool, true, false, List, [], ◌∷◌, length, take, get_or, Some, slice_get, arith}
 use Rattle.std.specs.Prelude.{◌↔◌, IsTrue}
 use Rattle.std.proofs.lemmas.Bool.{cases_order}
 use Rattle.std.proofs.lemmas.List.{length-append}
@@ -14,7 +14,7 @@ use Rattle.sc_cells.specs.Cells.{cell_count}
 use Rattle.sc_worker.specs.declared.worked.Worked.{Worked}
 use Rattle.sc_worker.specs.declared.worked.Worked.TheVariants.{Joined, Skipped, Done, Wide}
 use Rattle.sc_worker.specs.FinderList.{with_claim}
-use Rattle.sc_worker.specs.Choosing.{Choice, IsWorked}
+use Rattle.sc_worker.specs.Choosing.{IsWorked}
 use Rattle.sc_worker.specs.Trying.{IsStep}
 use Rattle.sc_worker.specs.Keeping.{light_from, choice_of, AreClaimsOver, IsChooser}
 use Rattle.sc_worker.proofs.LightLaws.{next_of}

@@ -1,5 +1,5 @@
 -- The first model of a task is one.
-use Rattle.std.proofs.Common.{◌≡◌, ◌∙◌, sym, ap, subst, refl, ℕ, zero, suc, ◌^◌, ◌<◌, ◌≤◌, ◌⊎◌, inl, inr, List, [], ◌∷◌, length, drop, Option, Some, None, IsSomeAnd, slice_get, slice_index, get_or, arith}
+use Rattle.std.proofs.Common.{◌≡◌, ◌∙◌, sym, ap, subst, refl, ℕ, suc, ◌^◌, ◌<◌, ◌≤◌, ◌⊎◌, inl, inr, List, [], ◌∷◌, length, drop, Option, Some, IsSomeAnd, slice_get, slice_index, get_or, arith}
 use Rattle.std.specs.List.{AllZip, AllByRecursion}
 use Rattle.std.proofs.lemmas.Bool.{cases_order}
 use Rattle.std.proofs.lemmas.List.{same_lists}
@@ -47,7 +47,7 @@ same_table size s a b h k m n each =
     let wide : length a.entries ≡ size ^ s.arity = m.many ∙ ap (λ (r : ℕ). size ^ r) h.arity in
     let entries : a.entries ≡ b.entries
     = same_lists a.entries b.entries long
-        (λ i d less. sym (any_default a.entries i d less) ∙ each i (subst (λ (r : ℕ). i < r) wide less) ∙ any_default b.entries i d (subst (λ (r : ℕ). i < r) long less)) in
+    (λ i d less. sym (any_default a.entries i d less) ∙ each i (subst (λ (r : ℕ). i < r) wide less) ∙ any_default b.entries i d (subst (λ (r : ℕ). i < r) long less)) in
     λ i. record { role = role i; arity = arity i; entries = entries i }
 
 same_tables : (size : ℕ) (ss : List Symbol) (ts us : List Table) → AllZip IsTableOf ss ts → AllZip IsTableOf ss us → AllByRecursion (IsTable size) ts → AllByRecursion (IsTable size) us
@@ -107,9 +107,9 @@ one_structure task cells values t u is iz are h k =
     let some : 1 ≤ task.size = subst (λ (n : ℕ). 1 ≤ n) h.size is.not_empty in
     let tables : t.tables ≡ u.tables
     = same_tables task.size (drop 1 task.sig) t.tables u.tables h.over k.over
-        (subst (λ (n : ℕ). AllByRecursion (IsTable n) t.tables) h.size (recursion_from_All (IsTable t.size) t.tables is.each))
-        (subst (λ (n : ℕ). AllByRecursion (IsTable n) u.tables) k.size (recursion_from_All (IsTable u.size) u.tables iz.each))
-        (λ i place s a b at_symbol at_a at_b within. one_entry task.sig task.size some i place s at_symbol within task cells values t u a b refl are h k at_a at_b) in
+    (subst (λ (n : ℕ). AllByRecursion (IsTable n) t.tables) h.size (recursion_from_All (IsTable t.size) t.tables is.each))
+    (subst (λ (n : ℕ). AllByRecursion (IsTable n) u.tables) k.size (recursion_from_All (IsTable u.size) u.tables iz.each))
+    (λ i place s a b at_symbol at_a at_b within. one_entry task.sig task.size some i place s at_symbol within task cells values t u a b refl are h k at_a at_b) in
     λ i. record { size = size i; tables = tables i }
 
 -- ---- first models

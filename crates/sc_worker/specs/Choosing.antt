@@ -1,5 +1,5 @@
 -- What contracts see of a chooser, and what working its next candidate does.
-use Rattle.std.specs.Prelude.{◌≡◌, ◌≢◌, ◌≤◌, ◌<◌, ◌⊎◌, ⊤, ℕ, List, [], ◌∷◌, Option, Some, None, length}
+use Rattle.std.specs.Prelude.{◌≡◌, ◌≢◌, ◌<◌, ℕ, List, [], ◌∷◌, None}
 use Rattle.sc_term.specs.declared.Numbered.{Numbered}
 use Rattle.sc_input_rules.specs.Problem.{Stated}
 use Rattle.sc_interp.specs.declared.plain.Claim.{Claim}

@@ -20,15 +20,15 @@ pub fn copy_clauses(alloc: Global, claims: &[Claim]) -> Mem<List<Clause>>
 
 /// The claims, as a version has them.
 pub fn copy_claims(alloc: Global, claims: &[Claim]) -> Mem<List<Claim>>
-    ensures { IfOk result (λ made. made ≡ claims.now) }
+    ensures { IfOk result (λ copies. copies ≡ claims.now) }
 {
-    let mut made = List::new(alloc);
+    let mut copies = List::new(alloc);
     for claim in claims {
         let clause = copy(alloc, &claim.clause)?;
-        made.push(Claim {
+        copies.push(Claim {
             number: claim.number,
             clause,
         })?;
     }
-    Ok(made)
+    Ok(copies)
 }

@@ -22,13 +22,13 @@ invariant_of-self-2 c =
     let next = c.next_light-self-inside in
     let at : IsAt c.self.inside.problem.now.inputs c.self.inside.place next.result c.self.inside.room c.index-inputs-self.result c.is_left.result
     = subst (λ (xs : List Clause). IsAt xs c.self.inside.place next.result c.self.inside.room c.index-inputs-self.result c.is_left.result) same (record {
-        tells = c.is_left.ensures;
-        is_left = search (rules, c.if-not-is_left.false);
-        here = c.index-inputs-self.is;
-        same = next.ensures.same;
-        within = next.ensures.within;
-        light = next.ensures.light;
-      }) in
+      tells = c.is_left.ensures;
+      is_left = search (rules, c.if-not-is_left.false);
+      here = c.index-inputs-self.is;
+      same = next.ensures.same;
+      within = next.ensures.within;
+      light = next.ensures.light;
+    }) in
     next_keeps c.self.inside.problem.now c.self.inside.size c.self.inside.budget c.self.inside.claims c.work.new.claims c.self.inside.place next.result c.self.inside.room c.index-inputs-self.result
     c.is_left.result c.self.inside.wide at c.self.invariant c.in_ok-worked.worked c.keeps.ensures c.in_ok-worked.ensures.worked
 
@@ -38,13 +38,13 @@ returns-clause-worked c =
     let next = c.next_light-self-inside in
     let at : IsAt c.self.inside.problem.now.inputs c.self.inside.place next.result c.self.inside.room c.index-inputs-self.result c.is_left.result
     = subst (λ (xs : List Clause). IsAt xs c.self.inside.place next.result c.self.inside.room c.index-inputs-self.result c.is_left.result) same (record {
-        tells = c.is_left.ensures;
-        is_left = search (rules, c.if-not-is_left.false);
-        here = c.index-inputs-self.is;
-        same = next.ensures.same;
-        within = next.ensures.within;
-        light = next.ensures.light;
-      }) in
+      tells = c.is_left.ensures;
+      is_left = search (rules, c.if-not-is_left.false);
+      here = c.index-inputs-self.is;
+      same = next.ensures.same;
+      within = next.ensures.within;
+      light = next.ensures.light;
+    }) in
     subst (λ (choice : Choice). IsWorked choice (choice_of c.self.inside.problem.now c.self.inside.size c.self.inside.budget c.work.new.claims next.result (c.self.inside.room - 1)) c.in_ok-worked.worked) c.self.view_is
     (next_works c.self.inside.problem.now c.self.inside.size c.self.inside.budget c.self.inside.claims c.work.new.claims c.self.inside.place next.result c.self.inside.room c.index-inputs-self.result
     c.is_left.result c.self.inside.wide at c.self.invariant c.in_ok-worked.worked c.if-self.false c.in_ok-worked.ensures.worked)
