@@ -4,3 +4,4 @@ pub mod KeepingLaws
 pub mod FinderLaws
 pub mod OneModel
 pub mod DecidedLaws
+pub mod ChooserLaws

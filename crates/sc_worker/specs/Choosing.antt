@@ -1,5 +1,5 @@
 -- What contracts see of a chooser, and what working its next candidate does.
-use Rattle.std.specs.Prelude.{◌≡◌, ◌≢◌, ◌<◌, ℕ, List, [], ◌∷◌, None}
+use Rattle.std.specs.Prelude.{◌≡◌, ◌≢◌, ◌<◌, ℕ, List, [], ◌∷◌, Option, None, drop}
 use Rattle.sc_term.specs.declared.Numbered.{Numbered}
 use Rattle.sc_input_rules.specs.Problem.{Stated}
 use Rattle.sc_interp.specs.declared.plain.Claim.{Claim}
@@ -14,7 +14,7 @@ use Rattle.sc_worker.specs.declared.worked.Skip.TheVariants as skip
 use Rattle.sc_worker.specs.declared.worked.Worked.{Worked}
 use Rattle.sc_worker.specs.declared.worked.Worked.TheVariants.{Joined, Skipped, Done, Wide}
 use Rattle.sc_worker.specs.Plans.{size_of_finder}
-use Rattle.sc_worker.specs.FinderList.{candidates_of, with_claim, task_for, MayBeTried, version_with}
+use Rattle.sc_worker.specs.FinderList.{candidates_of, with_claim, task_for, MayBeTried, version_with, claims_after}
 
 -- the problem, the size and the budget, the claims so far, and the candidates that are left
 pub record Choice : Type 0 where
@@ -28,6 +28,17 @@ pub record Choice : Type 0 where
 abbrev pub at_first : Stated → Plan → ℕ → Choice
 at_first problem plan f =
     record { problem = problem; size = size_of_finder plan f; budget = plan.nodes; claims = []; left = candidates_of problem plan }
+
+-- finder f after its first c candidates, which have these answers
+abbrev pub after_answers : Stated → Plan → ℕ → ℕ → List (Option ClaimedStructure) → Choice
+after_answers problem plan f c answers =
+    record {
+      problem = problem;
+      size = size_of_finder plan f;
+      budget = plan.nodes;
+      claims = claims_after [] answers;
+      left = drop c (candidates_of problem plan);
+    }
 
 -- there are too many cells to search
 abbrev pub IsTooWide : Choice → Type 0
