@@ -12,7 +12,8 @@
 //!
 //! `proofs/FinderLaws` has what follows of answers: those of one candidate more, as many as candidates, and that each
 //! version is over the problem's symbols, with input clauses as its claims (`IsPublished`). `proofs/DecidedLaws` has that
-//! they are decided where no search is spent.
+//! they are decided where no search is spent, `proofs/ChooserLaws` that a chooser goes through the work of its finder
+//! (`IsAlong`).
 #![tactic(auto)]
 
 mod choosing;
