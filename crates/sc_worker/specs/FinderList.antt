@@ -1,10 +1,11 @@
 -- What a finder may publish for the candidates that it worked.
-use Rattle.std.specs.Prelude.{◌≡◌, ◌≤◌, ◌<◌, ◌⊎◌, ℕ, List, [], ◌∷◌, ◌++◌, Option, Some, None, filter_map, map, filter, take, length, nat_le, slice_get}
+use Rattle.std.specs.Prelude.{◌≡◌, ◌≤◌, ◌<◌, ◌⊎◌, ℕ, Bool, List, [], ◌∷◌, ◌++◌, Option, Some, None, filter_map, map, filter, take, length, nat_le, slice_get}
+use Rattle.sc_term.specs.declared.Clause.{Clause}
 use Rattle.sc_term.specs.declared.Numbered.{Numbered}
 use Rattle.sc_term.specs.Clause.{weight}
 use Rattle.sc_input_rules.specs.Problem.{Stated}
 use Rattle.sc_interp.specs.declared.plain.Claim.{Claim}
-use Rattle.sc_interp.specs.Structure.{Structure}
+use Rattle.sc_interp.specs.Structure.{Structure, IsStructure}
 use Rattle.sc_interp.specs.Versions.{ClaimedStructure}
 use Rattle.sc_cells.specs.Cells.{cell_count}
 use Rattle.sc_cells.specs.Ground.{instance_count}
@@ -15,17 +16,25 @@ use Rattle.sc_worker.specs.Plans.{size_of_finder}
 
 -- ---- candidates
 
+-- it weighs at most 100
+abbrev pub is_light : Numbered → Bool
+is_light p = nat_le (weight p.clause) 100
+
 -- the first input clauses that weigh at most 100
 abbrev pub candidates_of : Stated → Plan → List Numbered
-candidates_of problem plan = take plan.candidates (filter (λ (p : Numbered). nat_le (weight p.clause) 100) (input_clauses problem))
+candidates_of problem plan = take plan.candidates (filter is_light (input_clauses problem))
 
 -- the candidate is claimed too
 abbrev pub with_claim : List Claim → Numbered → List Claim
 with_claim claims p = claims ++ record { number = p.number; clause = p.clause } ∷ []
 
+-- the clauses of the claims
+abbrev pub claimed_clauses : List Claim → List Clause
+claimed_clauses claims = map (λ (claim : Claim). claim.clause) claims
+
 -- an interpretation of the size is asked for in which all claims are true
 abbrev pub task_for : Stated → ℕ → List Claim → Task
-task_for problem size claims = record { sig = problem.symbols; clauses = map (λ (claim : Claim). claim.clause) claims; size = size }
+task_for problem size claims = record { sig = problem.symbols; clauses = claimed_clauses claims; size = size }
 
 -- ---- answers
 
@@ -43,13 +52,14 @@ MayBeSkipped budget task =
 abbrev pub version_with : Structure → List Claim → ClaimedStructure
 version_with t claims = record { tables = t; claims = claims }
 
--- from these claims the worked candidates have these answers: a candidate that joins has its version, and one that is
--- skipped has none
+-- from these claims the worked candidates have these answers: a candidate that joins has its version, whose tables have an
+-- entry in range for each place, and one that is skipped has none
 pub data Answers (problem : Stated) (size budget : ℕ) : List Claim → List Numbered → List (Option ClaimedStructure) → Type 0 where
   all_worked : {claims : List Claim} → Answers problem size budget claims [] []
   joins : {claims : List Claim} {p : Numbered} {ps : List Numbered} {t : Structure} {answers : List (Option ClaimedStructure)}
       → MayBeTried (task_for problem size (with_claim claims p))
       → IsFirstModel (task_for problem size (with_claim claims p)) None t
+      → IsStructure t
       → Answers problem size budget (with_claim claims p) ps answers
       → Answers problem size budget claims (p ∷ ps) (Some (version_with t (with_claim claims p)) ∷ answers)
   skips : {claims : List Claim} {p : Numbered} {ps : List Numbered} {answers : List (Option ClaimedStructure)}

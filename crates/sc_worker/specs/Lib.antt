@@ -1,3 +1,5 @@
 pub mod Plans
 pub mod FinderList
 pub mod Choosing
+pub mod Trying
+pub mod Keeping

@@ -8,11 +8,19 @@
 //! It stands on the search for first models (`sc_find`) and on versions (`sc_interp`). Callers may rest on this: `next` is
 //! the definition of a finder's answers, candidate by candidate (`IsWorked`); what it tells joined is a version over the
 //! problem's symbols. Where memory is wanting the chooser stays as it was. Its memory is that of the claims; a job is made
-//! anew for each candidate.
+//! anew for each candidate, with copies of their clauses.
+//!
+//! `proofs/FinderLaws` has what follows of answers: those of one candidate more, as many as candidates, and that each
+//! version is over the problem's symbols, with input clauses as its claims (`IsPublished`). `proofs/DecidedLaws` has that
+//! they are decided where no search is spent, `proofs/ChooserLaws` that a chooser goes through the work of its finder
+//! (`IsAlong`).
 #![tactic(auto)]
 
 mod choosing;
+mod copies;
+mod light;
 mod plan;
+mod trying;
 mod worked;
 
 pub use choosing::Chooser;
