@@ -2,4 +2,8 @@ pub mod RunLaws
 pub mod StartLaws
 pub mod MarkLaws
 pub mod RecordLaws
+pub mod OneGuide
+pub mod OneText
+pub mod InlineLooks
+pub mod OneInline
 pub mod OneRecord
