@@ -1,6 +1,7 @@
 -- Marks that are right stay right, and tell what is false in the guide.
-use Rattle.std.proofs.Common.{◌≡◌, ◌∙◌, sym, ap, subst, refl, ℕ, ◌⊎◌, inl, inr, List, [], ◌∷◌, ◌++◌, Some, not, nat_eq, arith}
+use Rattle.std.proofs.Common.{◌≡◌, ◌∙◌, sym, ap, subst, refl, ℕ, ◌+◌, ◌<◌, ◌⊎◌, inl, inr, List, [], ◌∷◌, ◌++◌, length, get_or, take, Some, not, nat_eq, arith}
 use Rattle.std.specs.List.{Contains}
+use Rattle.std.proofs.lemmas.List.{take_more}
 use Rattle.sc_term.specs.declared.Clause.{Clause}
 use Rattle.sc_term.specs.declared.Numbered.{Numbered}
 use Rattle.sc_term.specs.Numbering.{numbered}
@@ -84,7 +85,17 @@ marked_more old mid new front p h k = record {
     marked q (inl there) = let had = h.all q there in (had.0, k.kept had.0 had.1, had.2)
     marked q (inr there) = k.all q there
 
--- the clauses of the list stand under their numbers
+-- the next clause of a list after those before it
+pub next_marked : (old mid new : Marked) (sos : List Numbered) (i : ℕ) (p : Numbered) → i < length sos → p ≡ get_or sos i p
+    → AreMarked old mid (take i sos) → AreMarked mid new (p ∷ []) → AreMarked old new (take (i + 1) sos)
+next_marked old mid new sos i p less here h k =
+    subst (AreMarked old new) (ap (λ (q : Numbered). take i sos ++ q ∷ []) here ∙ sym (take_more sos i p less)) (marked_more old mid new (take i sos) p h k)
+
+-- as the values tell it
+pub marked_as : (old new other : Marked) (ps qs : List Numbered) → old ≡ other → ps ≡ qs → AreMarked old new ps → AreMarked other new qs
+marked_as old new other ps qs e f h = subst (λ (marks : Marked). AreMarked marks new qs) e (subst (AreMarked old new) f h)
+
+-- the clauses of sos stand under their numbers
 pub sos_stand : (problem : Stated) (book : Book) → IsSound problem book → (p : Numbered) → Contains book.sos p → StandsIn problem book p
 sos_stand problem book sound p there = all_stand problem book sound p (in_first p (book.usable ++ book.sos) book.passive (in_second p book.usable book.sos there))
 

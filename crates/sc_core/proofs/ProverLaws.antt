@@ -1,12 +1,13 @@
 -- What a prover's run keeps.
 use Rattle.std.proofs.Common.{◌≡◌, ◌∙◌, sym, ap, subst, refl, ℕ, ◌+◌, ◌<◌, ◌≤◌, inl, inr, List, [], ◌∷◌, ◌++◌, length, length-append, get_or, map, Option, Some, None, arith}
 use Rattle.std.specs.List.{AllPairs, AllByRecursion}
-use Rattle.std.proofs.lemmas.List.{length-map, map-append}
+use Rattle.std.proofs.lemmas.List.{length-map, length-replicate, map-append}
 use Rattle.std.proofs.lemmas.List.Quantifiers.{all_pairs_push}
 use Rattle.sc_term.proofs.SubstitutionLaws.{all_join}
 use Rattle.sc_core_rules.specs.declared.row.GivenRow.{GivenRow}
 use Rattle.sc_core_rules.specs.declared.row.Outcome.{Outcome}
 use Rattle.sc_term.specs.declared.Line.{Line}
+use Rattle.sc_term.specs.declared.symbol.Symbol.{Symbol}
 use Rattle.sc_term.specs.Proof.{IsProof}
 use Rattle.sc_term.specs.Refuted.{IsRefuted}
 use Rattle.sc_term.specs.Numbering.{numbered}
@@ -25,11 +26,15 @@ use Rattle.sc_core_rules.specs.Run.{IsRun, started}
 use Rattle.sc_core_rules.proofs.GoalLaws.{IsEmptyAt, run_goal, run_refutes}
 use Rattle.sc_core_laws.specs.LeavesInTime.{LeavesInTime}
 use Rattle.sc_core_laws.specs.TrueRows.{IsFrontOf}
-use Rattle.sc_guide.specs.Guided.{lengths_of}
+use Rattle.sc_guide.specs.Guided.{Guided, nothing_seen, lengths_of}
 use Rattle.sc_core.specs.Counts.{IsCounted}
 use Rattle.sc_core.specs.State.{look_told, looks_led, AreLengthsIn, SeesNoFewer, IsReached, LeaveInTimeSoFar}
 use Rattle.sc_core.proofs.CountLaws.{run_counted, run_turns, run_stays}
 use Rattle.sc_core.proofs.LookLaws.{whole_look, all_lengths, no_more, at_place, told_stay, same_led, one_more}
+
+-- so many lists are seen at the start
+pub lists_seen : (symbols : List Symbol) (lists : ℕ) (guide : Guided) → guide ≡ nothing_seen symbols lists → length guide.seen ≡ lists
+lists_seen symbols lists guide e = ap (λ (g : Guided). length g.seen) e ∙ length-replicate lists []
 
 module _ (problem : Stated) where
   -- ---- the last look once more

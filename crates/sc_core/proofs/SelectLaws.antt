@@ -1,6 +1,6 @@
 -- The look-ups select the clause that the definition names.
 use Rattle.std.proofs.Common.{◌≡◌, ◌≢◌, ◌∙◌, sym, ap, subst, refl, ℕ, ◌+◌, ◌%◌, ◌<◌, ◌≤◌, inl, inr, List, [], ◌∷◌, length, map, Option, Some, None, arith}
-use Rattle.std.specs.Prelude.{MatchOption, option_map}
+use Rattle.std.specs.Prelude.{IfNone, IfSome, MatchOption, option_map}
 use Rattle.std.specs.List.{All, Contains}
 use Rattle.sc_term.specs.declared.Clause.{Clause}
 use Rattle.sc_term.specs.declared.Numbered.{Numbered}
@@ -37,6 +37,10 @@ use Rattle.sc_core.proofs.WaitingLaws.{first_clause, weighed_in}
 none_weighed : (sos : List Numbered) → map weighed sos ≡ [] → sos ≡ []
 none_weighed [] e = refl
 none_weighed (p ∷ sos) e = let bad : weighed p ∷ map weighed sos ≡ [] = e in absurd cc
+
+pub matched : {X : Type 0} (o : Option X) (A : Type 0) (P : X → Type 0) → IfSome o P → IfNone o A → MatchOption o A P
+matched None A P some none = none
+matched (Some x) A P some none = some
 
 -- what a look-up tells
 abbrev pub Found : (Weighed → List ℕ) → (Weighed → Type 0) → List Weighed → Option ℕ → Type 0

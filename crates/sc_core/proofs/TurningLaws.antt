@@ -50,6 +50,9 @@ worked_in problem other turn given old before new finish same e h =
 pub match_some : {X : Type 0} (o : Option X) (x : X) (A : Type 0) (P : X → Type 0) → o ≡ Some x → MatchOption o A P → P x
 match_some o x A P e h = subst (λ z. MatchOption z A P) e h
 
+pub match_none : {X : Type 0} (o : Option X) (A : Type 0) (P : X → Type 0) → o ≡ None → MatchOption o A P → A
+match_none o A P e h = subst (λ z. MatchOption z A P) e h
+
 module _ (problem : Stated) (run : Run) where
   -- the run ends before a clause is given
   pub stops_turns : (seen : Seen) (o : Outcome) → Stops problem run (Some o) → Turns problem run seen (with_end run o)

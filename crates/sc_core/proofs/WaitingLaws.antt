@@ -1,11 +1,12 @@
 -- What is looked up among clauses of sos by number and weight.
-use Rattle.std.proofs.Common.{◌≡◌, ◌≢◌, ◌∙◌, sym, ap, subst, refl, ℕ, zero, suc, ◌+◌, ◌<◌, ◌≤◌, ◌⊎◌, inl, inr, List, [], ◌∷◌, ◌++◌, length, length-append, map, take, drop, Bool, true, false, cond, arith}
+use Rattle.std.proofs.Common.{◌≡◌, ◌≢◌, ◌∙◌, sym, ap, subst, refl, ℕ, zero, suc, ◌+◌, ◌<◌, ◌≤◌, ◌⊎◌, inl, inr, List, [], ◌∷◌, ◌++◌, length, get_or, map, take, drop, ◌^◌, Bool, true, false, cond, arith}
 use Rattle.std.specs.List.{All, AllPairs, Contains}
-use Rattle.std.proofs.lemmas.List.{length-map, take-append-drop}
+use Rattle.std.proofs.lemmas.List.{drop_more, take-append-drop}
 use Rattle.sc_term.specs.declared.Clause.{Clause}
 use Rattle.sc_term.specs.declared.Numbered.{Numbered}
 use Rattle.sc_term.proofs.ContainsLaws.{first_or_later, at_first, later}
 use Rattle.sc_input_rules.specs.Problem.{Stated}
+use Rattle.sc_core_rules.specs.Book.{Book, next_number}
 use Rattle.sc_core_rules.specs.Order.{IsBefore, IsLeast}
 use Rattle.sc_core_rules.proofs.FilterLaws.{in_second}
 use Rattle.sc_core_rules.proofs.OrderLaws.{first_before, tail_pairs}
@@ -14,6 +15,7 @@ use Rattle.sc_core_laws.proofs.Counting.{below, Bears, Shrinks, has, below_falls
 use Rattle.sc_sos.specs.declared.sos.Weighed.{Weighed}
 use Rattle.sc_sos.specs.Waiting.{ComesFirst, Waits}
 use Rattle.sc_core.specs.Choice.{weighed}
+use Rattle.sc_core.proofs.CountLaws.{count_all}
 
 abbrev Differ : Numbered → Numbered → Type 0
 Differ p q = p.number ≢ q.number
@@ -76,6 +78,14 @@ waits_not front p rest h (w, k, e) =
     let there = weighed_there front w k in
     behind front p rest h there.0 there.1 (ap (λ (x : Weighed). x.number) there.2 ∙ e)
 
+-- the next of a list doesn't wait, where those before it do
+pub fresh_at : (sos : List Numbered) (i : ℕ) (p : Numbered) → i < length sos → p ≡ get_or sos i p → AllPairs Differ sos
+    → (ws : List Weighed) → ws ≡ map weighed (take i sos) → ¬ Waits ws p.number
+fresh_at sos i p less here differ ws e h =
+    let split : sos ≡ take i sos ++ p ∷ drop (i + 1) sos =
+    sym (take-append-drop i sos) ∙ ap (λ (rest : List Numbered). take i sos ++ rest) (drop_more sos i p less ∙ ap (λ (q : Numbered). q ∷ drop (i + 1) sos) (sym here)) in
+    waits_not (take i sos) p (drop (i + 1) sos) (subst (AllPairs Differ) split differ) (subst (λ (us : List Weighed). Waits us p.number) e h)
+
 -- ---- as many clauses as there are numbers
 
 below_most : (ps : List Numbered) (n : ℕ) → below ps n ≤ n
@@ -104,5 +114,14 @@ pub no_more_than : (ps : List Numbered) (n : ℕ) → AllPairs Differ ps → ((p
 no_more_than ps n h less = let count = count_below ps n h less in let most = below_most ps n in omega (arith, count, most)
 
 -- those of the second list are below the bound, where all are
-pub second_below : (ps qs : List Numbered) (n : ℕ) → All (λ (p : Numbered). p.number < n) (ps ++ qs) → (p : Numbered) → Contains qs p → p.number < n
+second_below : (ps qs : List Numbered) (n : ℕ) → All (λ (p : Numbered). p.number < n) (ps ++ qs) → (p : Numbered) → Contains qs p → p.number < n
 second_below ps qs n all p k = at (λ (q : Numbered). q.number < n) (ps ++ qs) p all (in_second p ps qs k)
+
+-- few clauses wait, where few have a number
+pub few_wait : (problem : Stated) (book : Book) → AllPairs Differ (book.usable ++ book.sos) → All (λ (p : Numbered). p.number < next_number problem book) (book.usable ++ book.sos)
+    → length problem.inputs + length book.derived + 200002 < 2 ^ 32 → (ps : List Numbered) → ps ≡ book.sos → length ps < 2 ^ 32
+few_wait problem book differ under few ps e =
+    let most = no_more_than book.sos (next_number problem book) (back_pairs book.usable book.sos differ) (second_below book.usable book.sos (next_number problem book) under) in
+    let count = count_all problem.inputs book.derived in
+    let same : length ps ≡ length book.sos = ap (λ (qs : List Numbered). length qs) e in
+    omega (arith, most, count, same, few)

@@ -89,8 +89,9 @@ impl Prover {
         requires few { lists ≤ 8 }
         ensures { IfOk result (λ prover. (book : ABook) × (goal : AnOption ℕ) × Starts problem.now book goal × (prover ≡ at_start problem.now lists book goal)) }
     {
-        let guide = Guide::new(alloc, problem.sig(), lists)?;
-        let marks = Marks::new(alloc, problem.sig())?;
+        let symbols = problem.sig();
+        let guide = Guide::new(alloc, symbols, lists)?;
+        let marks = Marks::new(alloc, symbols)?;
         let mut book = Book::new(alloc, problem)?;
         let goal = book.start()?;
         let ended = ended_by(goal);

@@ -146,10 +146,16 @@ pub fn select(
     let waiting = waiting(alloc, book.sos().as_slice())?;
     let ratio = book.params().pick_given_ratio;
     if turn % (ratio + 1) == 0 {
-        return Ok(chosen(waiting.oldest(), Cause::Age));
+        let oldest = chosen(waiting.oldest(), Cause::Age);
+        return Ok(oldest);
     }
     match lightest_false(alloc, guide, marks, book, &waiting)? {
-        Some(n) => Ok(chosen(Some(n), Cause::False)),
-        None => Ok(chosen(waiting.lightest(), Cause::Weight)),
+        Some(n) => {
+            let lightest_false = chosen(Some(n), Cause::False);
+            return Ok(lightest_false);
+        }
+        None => {}
     }
+    let lightest = chosen(waiting.lightest(), Cause::Weight);
+    Ok(lightest)
 }
