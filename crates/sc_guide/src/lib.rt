@@ -2,7 +2,8 @@
 //!
 //! `Guide` holds a list of versions for each finder. `add` puts one more at the end of a list, `name` and `version` tell
 //! the guide: the version of greatest score, then of least finder, then of greatest place, and the opening version where
-//! none is seen. Contracts see the lists, the guide and its name (`specs/Guided`).
+//! none is seen, whose name is `OPENING`. Contracts see the opening version, the lists, the guide and its name
+//! (`specs/Guided`).
 //!
 //! It stands on versions (`sc_interp`) and on the definition of the guide (`sc_core_rules`). Callers may rest on this:
 //! what is told is the guide of the lists as they are (`IsGuideOver`); `add` changes one list, by one version at its end.
@@ -11,4 +12,4 @@
 
 mod guide;
 
-pub use guide::Guide;
+pub use guide::{Guide, OPENING};

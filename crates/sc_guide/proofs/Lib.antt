@@ -1,0 +1,4 @@
+pub mod ListLaws
+pub mod SeenLaws
+pub mod GuideLaws
+pub mod GuideExample
