@@ -20,9 +20,13 @@ pub record Marked : Type 0 where
 abbrev pub unmarked : List Symbol → Marked
 unmarked symbols = record { name = opening_name; version = opening symbols; clauses = [] }
 
+-- one of the clauses has number n
+abbrev pub HasNumber : List Numbered → ℕ → Type 0
+HasNumber clauses n = (p : Numbered) × Contains clauses p × (p.number ≡ n)
+
 -- clause n is marked
 abbrev pub HasMark : Marked → ℕ → Type 0
-HasMark marked n = (p : Numbered) × Contains marked.clauses p × (p.number ≡ n)
+HasMark marked n = HasNumber marked.clauses n
 
 -- clause n is marked, and this is its truth in the version
 abbrev pub HasTruth : Marked → ℕ → Truth → Type 0
@@ -36,6 +40,10 @@ IsMarkedFalse marked n = HasTruth marked n False
 abbrev pub with_mark : Marked → ℕ → Clause → Marked
 with_mark marked n c = record marked { clauses = marked.clauses ++ record { number = n; clause = c } ∷ [] }
 
+-- the clauses other than n
+abbrev pub without_number : List Numbered → ℕ → List Numbered
+without_number clauses n = filter (λ (p : Numbered). not (nat_eq p.number n)) clauses
+
 -- clause n isn't marked any more
 abbrev pub without_mark : Marked → ℕ → Marked
-without_mark marked n = record marked { clauses = filter (λ (p : Numbered). not (nat_eq p.number n)) marked.clauses }
+without_mark marked n = record marked { clauses = without_number marked.clauses n }

@@ -8,8 +8,13 @@
 //! marked number has the mark, by definition, of the clause that it was marked with, in the one version that all marks
 //! name; a number isn't marked exactly where `of` tells nothing. What takes memory says so by its type, and where memory
 //! is wanting the marks stay as they were.
+//!
+//! The truth of clause n stands at place n of a list (`specs/Marking`): `of` is one look, however many clauses are marked.
+//! That takes a byte or two for each number up to the greatest. `forget` takes one pass over the clauses where the clause is
+//! marked, and `carry` finds the truth of each clause anew.
 #![tactic(auto)]
 
 mod marks;
+mod truths;
 
 pub use marks::{Mark, Marks};

@@ -6,8 +6,9 @@ ghost use Rattle.sc_term.specs.declared.Numbered.{Numbered as ANumbered};
 ghost use Rattle.sc_interp.specs.Marks.{IsMark};
 ghost use Rattle.sc_mark.specs.Marked.{unmarked, HasMark, HasTruth, with_mark, without_mark};
 
-use sc_interp::{Assign, Truth, Version, VersionName, truth};
-use sc_term::{Clause, Mem, Signature, copy, width};
+use crate::truths::{add, clear, leave_out, truth_in, truth_of, truths_in};
+use sc_interp::{Assign, Truth, Version, VersionName};
+use sc_term::{Clause, List, MAX_WEIGHT, Mem, Numbered, Signature};
 use std::alloc::Global;
 use std::marker::Model;
 
@@ -18,18 +19,54 @@ pub struct Mark {
     pub truth: Truth,
 }
 
-/// Clauses that are marked in one version. Contracts see the version, its name and the clauses (`Marked`).
+/// Clauses that are marked in one version. Contracts see the version, its name and the clauses (`Marked`); `IsMarking`
+/// says what they keep. The clauses stand in the order in which they were marked, and the truth of clause n at place n of
+/// a list, so that a mark is told in one look. The register is as wide as a clause within the limits.
 #[derive(Drop)]
-pub struct Marks {}
+pub struct Marks {
+    name: VersionName,
+    version: Version,
+    clauses: Vec<Numbered>,
+    truths: List<Option<Truth>>,
+    register: Assign,
+}
+
+impl Model for Marks {
+    ghost use Rattle.std.specs.Coded.{codes};
+    ghost use Rattle.sc_term.specs.contracts.Term as term;
+    ghost use Rattle.sc_mark.specs.Marked.{Marked};
+    ghost use Rattle.sc_mark.specs.Marking.{IsMarking};
+
+    ghost Value = { Marked };
+
+    ghost coded = { Prim.hlevel (codes, term.the_row.coded) };
+
+    ghost view = { λ m. record { name = m.name; version = m.version; clauses = m.clauses.items } };
+
+    ghost invariant = { λ m. IsMarking (record { name = m.name; version = m.version; clauses = m.clauses.items }) m.truths m.register };
+}
 
 impl Marks {
     /// No marks, in the opening version.
     pub fn new(alloc: Global, sig: &Signature) -> Mem<Marks>
         ensures { IfOk result (λ marks. marks ≡ unmarked sig.now) }
     {
+        let version = Version::opening(alloc, sig)?;
+        let register = Assign::new(alloc, MAX_WEIGHT)?;
+        Ok(Marks {
+            name: VersionName {
+                finder: 0,
+                place: 0,
+            },
+            version,
+            clauses: Vec::new(alloc),
+            truths: List::new(alloc),
+            register,
+        })
     }
 
     /// Marks clause n, which isn't marked, and tells its truth in the version. Where memory is wanting, nothing changes.
+    /// It takes memory in proportion to n where n is greater than every number that was marked since the last carry.
     pub fn mark(&mut self, alloc: Global, n: u32, c: &Clause) -> Mem<Truth>
         requires fresh { ¬ HasMark self.old n }
         requires canonical { IsCanonical c.now }
@@ -38,6 +75,9 @@ impl Marks {
         ensures marked { OnOk result (self.new ≡ with_mark self.old n c.now) }
         ensures refused { OnErr result (self.new ≡ self.old) }
     {
+        let truth = truth_in(self.version.tables(), c, &mut self.register);
+        add(alloc, &mut self.clauses, &mut self.truths, n, c, truth)?;
+        Ok(truth)
     }
 
     /// The mark of clause n, None exactly where it isn't marked.
@@ -47,12 +87,26 @@ impl Marks {
         ensures name { IfSome result (λ mark. mark.name ≡ self.now.name) }
         ensures none { IfNone result (¬ HasMark self.now n) }
     {
+        match truth_of(self.truths.as_slice(), n) {
+            Some(truth) => Some(Mark {
+                name: self.name,
+                truth,
+            }),
+            None => None,
+        }
     }
 
-    /// Clause n isn't marked any more.
+    /// Clause n isn't marked any more. Where it wasn't, this takes one look.
     pub fn forget(&mut self, n: u32)
         ensures { self.new ≡ without_mark self.old n }
     {
+        match truth_of(self.truths.as_slice(), n) {
+            Some(_) => {
+                leave_out(&mut self.clauses, n);
+                clear(&mut self.truths, n);
+            }
+            None => {}
+        }
     }
 
     /// Every clause that is marked is marked anew, in this version, of that name. Where memory is wanting, nothing changes.
@@ -60,11 +114,23 @@ impl Marks {
         ensures carried { OnOk result (self.new ≡ record self.old { name = name; version = to.now }) }
         ensures refused { OnErr result (self.new ≡ self.old) }
     {
+        let truths = truths_in(
+            alloc,
+            to.tables(),
+            self.clauses.as_slice(),
+            &mut self.register,
+        )?;
+        let version = to.copy(alloc)?;
+        self.name = name;
+        self.version = version;
+        self.truths = truths;
+        Ok(())
     }
 
     /// The name of the version.
     pub fn name(&self) -> VersionName
         ensures { result ≡ self.now.name }
     {
+        self.name
     }
 }

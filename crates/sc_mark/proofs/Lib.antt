@@ -1,0 +1,3 @@
+pub mod NarrowLaws
+pub mod TruthLaws
+pub mod MarkingLaws
