@@ -1,5 +1,5 @@
 -- What contracts see of a set of support: clause numbers with their weights, and which of them comes first.
-use Rattle.std.specs.Prelude.{◌≡◌, ℕ, List, [], ◌∷◌, ◌++◌, All, Contains, filter, not, nat_eq}
+use Rattle.std.specs.Prelude.{◌≡◌, ℕ, List, [], ◌∷◌, ◌++◌, Contains, filter, not, nat_eq}
 use Rattle.sc_mark.specs.Marked.{Marked, IsMarkedFalse}
 use Rattle.sc_core_rules.specs.Order.{IsLeast}
 use Rattle.sc_sos.specs.declared.sos.Weighed.{Weighed}

@@ -9,6 +9,7 @@
 //! look-ups take no memory. A look-up takes one pass over the numbers.
 #![tactic(auto)]
 
+mod looking;
 mod sos;
 
 pub use sos::{Sos, Weighed};

@@ -1,11 +1,11 @@
 //! The set of support by number and weight.
 
-ghost use Rattle.std.specs.Prelude.{◌≡◌, ◌≤◌, ◌<◌, ◌+◌, [], All, IfOk, OnOk, OnErr, IfSome, IfNone};
-ghost use Rattle.sc_sos.specs.Waiting.{age_of, weight_of, IsAny, Waits, ComesFirst, IsFalseIn, with_clause, without_clause};
+ghost use Rattle.std.specs.Prelude.{◌≡◌, ◌≤◌, ◌<◌, ◌+◌, ◌-◌, [], All, IfOk, OnOk, OnErr, IfSome, IfNone, vec_len, vec_capacity};
+ghost use Rattle.sc_sos.specs.Waiting.{Waiting, age_of, weight_of, IsAny, Waits, ComesFirst, IsFalseIn, with_clause, without_clause};
 
-use sc_interp::Truth;
+use crate::looking::{Order, first, first_false};
 use sc_mark::Marks;
-use sc_term::{List, Mem};
+use sc_term::Mem;
 use std::alloc::Global;
 use std::marker::Model;
 
@@ -23,11 +23,20 @@ pub struct Sos {
     clauses: Vec<Weighed>,
 }
 
+impl Model for Sos {
+    ghost Value = { Waiting };
+
+    ghost view = { λ s. record { clauses = s.clauses.items; spare = vec_capacity s.clauses - vec_len s.clauses } };
+}
+
 impl Sos {
     /// None waits.
     pub fn new(alloc: Global) -> Mem<Sos>
         ensures { IfOk result (λ sos. sos.clauses ≡ []) }
     {
+        Ok(Sos {
+            clauses: Vec::new(alloc),
+        })
     }
 
     /// Makes room for so many more.
@@ -36,6 +45,8 @@ impl Sos {
         ensures kept { OnOk result (self.new.clauses ≡ self.old.clauses) }
         ensures refused { OnErr result (self.new ≡ self.old) }
     {
+        self.clauses.reserve(more as usize)?;
+        Ok(())
     }
 
     /// Clause n, which doesn't wait yet, waits with this weight. There has to be room. It takes no memory.
@@ -45,6 +56,7 @@ impl Sos {
         ensures clauses { self.new.clauses ≡ with_clause self.old.clauses n weight }
         ensures spare { self.new.spare + 1 ≡ self.old.spare }
     {
+        self.clauses.push_reserved(Weighed { number: n, weight });
     }
 
     /// Clause n doesn't wait any more, if it did.
@@ -52,6 +64,7 @@ impl Sos {
         ensures clauses { self.new.clauses ≡ without_clause self.old.clauses n }
         ensures spare { self.old.spare ≤ self.new.spare }
     {
+        self.clauses.retain(|w| w.number != n);
     }
 
     /// The least number, None exactly where none waits.
@@ -59,6 +72,10 @@ impl Sos {
         ensures some { IfSome result (λ n. ComesFirst age_of IsAny self.now.clauses n) }
         ensures none { IfNone result (self.now.clauses ≡ []) }
     {
+        match first(Order::Age, &self.clauses) {
+            Some(w) => Some(w.number),
+            None => None,
+        }
     }
 
     /// The number of the lightest, ties to the lesser number; None exactly where none waits.
@@ -66,6 +83,10 @@ impl Sos {
         ensures some { IfSome result (λ n. ComesFirst weight_of IsAny self.now.clauses n) }
         ensures none { IfNone result (self.now.clauses ≡ []) }
     {
+        match first(Order::Weight, &self.clauses) {
+            Some(w) => Some(w.number),
+            None => None,
+        }
     }
 
     /// The number of the lightest of those that are marked False, ties to the lesser number; None exactly where none is.
@@ -73,5 +94,9 @@ impl Sos {
         ensures some { IfSome result (λ n. ComesFirst weight_of (IsFalseIn marks.now) self.now.clauses n) }
         ensures none { IfNone result (All (λ w. ¬ IsFalseIn marks.now w) self.now.clauses) }
     {
+        match first_false(marks, &self.clauses) {
+            Some(w) => Some(w.number),
+            None => None,
+        }
     }
 }

@@ -1,0 +1,2 @@
+mod LookingLaws
+mod MarkLaws
