@@ -9,7 +9,7 @@ use Rattle.sc_steps.specs.declared.derivations.derivation.Derived.{Derived}
 use Rattle.sc_steps.proofs.LineLaws.{number_in_whole}
 use Rattle.sc_input_rules.specs.Problem.{Stated}
 use Rattle.sc_core_rules.specs.declared.fate.Processed.{Processed}
-use Rattle.sc_core_rules.specs.Book.{Book, next_number, numbered_clauses, with_derived}
+use Rattle.sc_core_rules.specs.Book.{Book, next_number, numbered_clauses}
 use Rattle.sc_core_rules.specs.Processing.{with_kept, Sweeps, Keeps, MeetsFate, Processes}
 use Rattle.sc_core_rules.specs.Selection.{Seen}
 use Rattle.sc_core_rules.specs.WorkList.{Item, Finish, Works, done, too_many, nothing, found, goes_on}

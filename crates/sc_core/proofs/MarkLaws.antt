@@ -5,7 +5,7 @@ use Rattle.std.proofs.lemmas.List.{take_more}
 use Rattle.sc_term.specs.declared.Clause.{Clause}
 use Rattle.sc_term.specs.declared.Numbered.{Numbered}
 use Rattle.sc_term.specs.Numbering.{numbered}
-use Rattle.sc_term.proofs.ContainsLaws.{at_first, first_or_later}
+use Rattle.sc_term.proofs.ContainsLaws.{first_or_later}
 use Rattle.sc_input_rules.specs.Problem.{Stated}
 use Rattle.sc_interp.specs.declared.plain.VersionName.{VersionName}
 use Rattle.sc_interp.specs.declared.plain.Truth.TheVariants.{False}

@@ -1,15 +1,13 @@
 -- More versions are seen, and what a name means there.
 use Rattle.std.proofs.Common.{◌≡◌, ◌∙◌, sym, ap, subst, refl, ℕ, zero, suc, ◌+◌, ◌-◌, ◌<◌, ◌⊎◌, inl, inr, List, [], ◌∷◌, ◌++◌, length, Option, Some, None, slice_get, arith}
 use Rattle.std.specs.Prelude.{IsSomeAnd, slice_set}
-use Rattle.std.specs.List.{AllZip}
-use Rattle.std.proofs.lemmas.List.{append-nil, length-set}
+use Rattle.std.proofs.lemmas.List.{append-nil}
 use Rattle.sc_term.specs.Numbering.{numbered, with_element}
 use Rattle.sc_steps.proofs.LineLaws.{in_whole}
 use Rattle.sc_input_rules.specs.Problem.{Stated}
 use Rattle.sc_interp.specs.declared.plain.VersionName.{VersionName}
 use Rattle.sc_interp.specs.Versions.{ClaimedStructure}
 use Rattle.sc_core_rules.specs.Selection.{Seen, IsAt, IsBetter, IsGuide, score, opening_name}
-use Rattle.sc_core_rules.specs.Run.{IsPrefixOf}
 use Rattle.sc_core_rules.proofs.DerivationLaws.{compared}
 use Rattle.sc_core_rules.proofs.NumberLaws.{numbered-suc}
 use Rattle.sc_core_rules.proofs.StepLaws.{some_both, same_some}

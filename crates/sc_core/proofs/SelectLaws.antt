@@ -13,9 +13,7 @@ use Rattle.sc_core_rules.specs.declared.row.Cause.{Cause}
 use Rattle.sc_core_rules.specs.declared.row.Cause.TheVariants as cause
 use Rattle.sc_core_rules.specs.declared.row.GivenRow.{GivenRow}
 use Rattle.sc_core_rules.specs.Book.{Book, IsSound, numbered_clauses}
-use Rattle.sc_core_rules.specs.Order.{IsLeast}
-use Rattle.sc_core_rules.specs.Rewriting.{number_of}
-use Rattle.sc_core_rules.specs.Selection.{Seen, IsAny, IsFalse, IsGuide, Selects, by_weight, ratio, opening_name}
+use Rattle.sc_core_rules.specs.Selection.{Seen, IsAny, IsFalse, IsGuide, Selects, ratio, opening_name}
 use Rattle.sc_core_rules.proofs.SoundLaws.{at}
 use Rattle.sc_core_rules.proofs.StepLaws.{same_some}
 use Rattle.sc_core_rules.proofs.TurnLaws.{selected_there}

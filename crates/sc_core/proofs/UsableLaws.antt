@@ -1,5 +1,5 @@
 -- The clauses that were usable when the turn began serve as parents, by their numbers.
-use Rattle.std.proofs.Common.{◌≡◌, ◌∙◌, sym, ap, subst, ℕ, ◌+◌, ◌<◌, ◌≤◌, ◌++◌, List, length, get_or, Some, Option}
+use Rattle.std.proofs.Common.{◌≡◌, sym, subst, ℕ, ◌+◌, ◌<◌, ◌≤◌, ◌++◌, List, length, get_or, Some, Option}
 use Rattle.std.specs.List.{All, Contains}
 use Rattle.sc_term.specs.declared.Clause.{Clause}
 use Rattle.sc_term.specs.declared.Numbered.{Numbered}

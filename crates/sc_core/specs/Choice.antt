@@ -32,7 +32,7 @@ IsSelected problem sos turn name v n c = (p : Numbered) × (p.number ≡ n) × S
 
 -- the given clause is clause n, and the row is its row under the guide of what is seen
 pub record IsRowOf (guide : Guided) (turn n : ℕ) (clause : Clause) (cause : Cause) (choice : GivenChoice) : Type 0 where
-  pub guides : IsGuideOver guide.symbols guide.seen guide.name guide.version
+  pub guides : IsGuideOver guide.opening_version guide.seen guide.name guide.version
   pub given : choice.given ≡ record { number = n; clause = clause }
   pub marked : IsMark guide.version.tables clause choice.row.truth
   pub row : choice.row ≡ record { turn = turn; number = n; cause = cause; name = guide.name; truth = choice.row.truth; lengths = lengths_of guide.seen }

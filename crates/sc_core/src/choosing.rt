@@ -3,6 +3,7 @@
 ghost use Rattle.std.specs.Prelude.{◌≡◌, ◌<◌, ◌+◌, ◌^◌, [], true, IfOk, OnOk, MatchOption, length};
 ghost use Rattle.sc_term.specs.Clause.{IsCanonical, IsWithinLimits};
 ghost use Rattle.sc_interp.specs.Marks.{IsMark};
+ghost use Rattle.sc_interp.specs.Versions.{opening};
 ghost use Rattle.sc_core.specs.Choice.{IsRowOf, IsChosen};
 ghost use Rattle.sc_core.specs.Marking.{AreRight};
 
@@ -43,7 +44,6 @@ fn with_row(
 ) -> Mem<GivenChoice>
     requires canonical { IsCanonical clause.now }
     requires within { IsWithinLimits clause.now }
-    requires lists { length guide.now.seen < 2 ^ 32 }
     ensures { IfOk result (λ choice. IsRowOf guide.now turn n clause.now cause choice) }
 {
     let truth = mark(alloc, guide.version(), clause)?;
@@ -74,8 +74,7 @@ pub fn choose(
 ) -> Mem<Option<GivenChoice>>
     requires whole { book.now.whole ≡ true }
     requires few { length book.now.problem.inputs + length book.now.book.derived + 200002 < 2 ^ 32 }
-    requires lists { length guide.now.seen < 2 ^ 32 }
-    requires symbols { guide.now.symbols ≡ book.now.problem.symbols }
+    requires opens { guide.now.opening_version ≡ opening book.now.problem.symbols }
     requires right { AreRight book.now.problem guide.now.seen book.now.book marks.old }
     ensures chosen { IfOk result (λ chosen. MatchOption chosen (book.now.book.sos ≡ []) (λ choice. IsChosen book.now.problem guide.now turn book.now.book.sos choice)) }
     ensures right { OnOk result (AreRight book.now.problem guide.now.seen book.now.book marks.new) }

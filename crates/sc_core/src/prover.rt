@@ -22,8 +22,8 @@ use crate::end::TurnEnd;
 use crate::turning::{Running, turn};
 use sc_core_laws::clauses_leave_in_time;
 use sc_core_rules::{GivenRow, KeptRow, Outcome};
-use sc_input_rules::Problem;
 use sc_guide::Guide;
+use sc_input_rules::Problem;
 use sc_interp::{Version, VersionName};
 use sc_keep::Book;
 use sc_mark::Marks;
@@ -203,7 +203,7 @@ impl Prover {
     }
 
     /// The versions of each finder that are seen, in order.
-    pub fn seen(&self) -> &List<List<Version>>
+    pub fn seen(&self) -> &[List<Version>]
         ensures { result.now ≡ self.now.seen }
     {
         self.guide.seen()

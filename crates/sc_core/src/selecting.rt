@@ -2,8 +2,7 @@
 
 ghost use Rattle.std.specs.Prelude.{◌≡◌, ◌≢◌, ◌<◌, ◌↔◌, ◌+◌, ◌^◌, [], ◌∷◌, true, All, AllPairs, IsTrue, IfOk, OnOk, MatchOption, option_map, length, map};
 ghost use Rattle.sc_term.specs.Clause.{IsCanonical, IsWithinLimits};
-ghost use Rattle.sc_mark.specs.Marked.{HasMark, with_mark};
-ghost use Rattle.sc_core_rules.specs.Selection.{opening_name};
+ghost use Rattle.sc_interp.specs.Versions.{opening as opening_version};
 ghost use Rattle.sc_core.specs.Choice.{weighed, HasFalse, IsLightestFalse, IsSelected};
 ghost use Rattle.sc_core.specs.Marking.{AreRight, AreMarked, in_guide};
 
@@ -105,7 +104,7 @@ fn lightest_false(
 ) -> Mem<Option<u32>>
     requires whole { book.now.whole ≡ true }
     requires waiting { waiting.now.clauses ≡ map weighed book.now.book.sos }
-    requires symbols { guide.now.symbols ≡ book.now.problem.symbols }
+    requires opens { guide.now.opening_version ≡ opening_version book.now.problem.symbols }
     requires right { AreRight book.now.problem guide.now.seen book.now.book marks.old }
     ensures found { IfOk result (λ found. MatchOption found (¬ HasFalse book.now.book.sos guide.now.name guide.now.version)
         (λ n. IsLightestFalse book.now.problem book.now.book.sos guide.now.name guide.now.version n)) }
@@ -136,7 +135,7 @@ pub fn select(
 ) -> Mem<Option<Selected>>
     requires whole { book.now.whole ≡ true }
     requires few { length book.now.problem.inputs + length book.now.book.derived + 200002 < 2 ^ 32 }
-    requires symbols { guide.now.symbols ≡ book.now.problem.symbols }
+    requires opens { guide.now.opening_version ≡ opening_version book.now.problem.symbols }
     requires right { AreRight book.now.problem guide.now.seen book.now.book marks.old }
     ensures selected { IfOk result (λ found. MatchOption found (book.now.book.sos ≡ [])
         (λ s. IsSelected book.now.problem book.now.book.sos turn guide.now.name guide.now.version s.number s.cause)) }

@@ -1,6 +1,7 @@
 //! One turn of a run.
 
 ghost use Rattle.std.specs.Prelude.{◌≡◌, ◌+◌, ◌<◌, ◌^◌, true, None, IfOk, OnOk, Contains, length};
+ghost use Rattle.sc_interp.specs.Versions.{opening};
 ghost use Rattle.sc_core_rules.specs.Turn as turns;
 ghost use Rattle.sc_core_rules.specs.Turn.{Turns};
 ghost use Rattle.sc_core.specs.Finish.{finish_of};
@@ -85,7 +86,7 @@ fn work_all(alloc: Global, book: &mut Book, given: &Numbered, turn: u32) -> Mem<
     Ok(finish)
 }
 
-/// Gives the chosen clause: its row is written, it moves to usable, and all its sites are worked (`AreParts`).
+/// Gives the chosen clause: its row is written, it moves to usable, and all its sites are worked (`IsGiven`).
 fn give(alloc: Global, running: &mut Running, choice: GivenChoice, turn: u32) -> Mem<()>
     requires whole { running.old.book.whole ≡ true }
     requires listed { Contains running.old.book.book.sos choice.given }
@@ -109,8 +110,7 @@ pub fn turn(alloc: Global, guide: &Guide, marks: &mut Marks, running: &mut Runni
     requires whole { running.old.book.whole ≡ true }
     requires going { running.old.ended ≡ None }
     requires counted { IsCounted running.old.book.problem (run_of running.old) }
-    requires lists { length guide.now.seen < 2 ^ 32 }
-    requires symbols { guide.now.symbols ≡ running.old.book.problem.symbols }
+    requires opens { guide.now.opening_version ≡ opening running.old.book.problem.symbols }
     requires right { AreRight running.old.book.problem guide.now.seen running.old.book.book marks.old }
     ensures turns { OnOk result (Turns running.old.book.problem (run_of running.old) guide.now.seen (run_of running.new)) }
     ensures right { OnOk result (AreRight running.old.book.problem guide.now.seen running.new.book.book marks.new) }

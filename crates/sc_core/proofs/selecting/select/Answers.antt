@@ -1,4 +1,4 @@
-use Rattle.std.proofs.Common.{◌≡◌, ◌≢◌, ◌∙◌, sym, ap, subst, ℕ, ◌+◌, ◌%◌, [], Some, None, Option, map}
+use Rattle.std.proofs.Common.{◌≡◌, ◌≢◌, ◌∙◌, sym, ap, subst, ◌+◌, ◌%◌, [], Some, map}
 use Rattle.std.specs.List.{AllPairs}
 use Rattle.sc_term.specs.declared.Numbered.{Numbered}
 use Rattle.sc_input_rules.specs.declared.settings.Params.{Params}

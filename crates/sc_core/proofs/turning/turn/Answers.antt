@@ -30,7 +30,7 @@ returns-in_ok-give-in-Some-2-clause-turns c =
     let room : Stops problem (run_of running) None = subst (λ (o : Option Outcome). Stops problem (run_of running) o) c.in-None.is c.limit.ensures in
     let chosen : IsChosen problem guide turn running.book.book.sos choice =
     match_some c.in_ok-choice.field-0 choice (running.book.book.sos ≡ []) (λ (x : GivenChoice). IsChosen problem guide turn running.book.book.sos x) c.in-Some-2.is c.in_ok-choice.ensures.chosen in
-    given_turns problem (run_of running) guide turn choice (run_of c.give.new.running) (chosen.row.guides problem (sym c.requires.symbols))
+    given_turns problem (run_of running) guide turn choice (run_of c.give.new.running) (chosen.row.guides problem (sym c.requires.opens))
     (ap (λ (n : ℕ). n + 1) c.len.ensures) room chosen c.in_ok-give-in-Some-2.ensures.given
 
 pub returns-in_ok-give-in-Some-2-clause-right : goal.returns-in_ok-give-in-Some-2-clause-right
@@ -44,7 +44,7 @@ returns-in_ok-give-in-Some-2-clause-right c =
     let chosen : IsChosen problem guide turn running.book.book.sos choice =
     match_some c.in_ok-choice.field-0 choice (running.book.book.sos ≡ []) (λ (x : GivenChoice). IsChosen problem guide turn running.book.book.sos x) c.in-Some-2.is c.in_ok-choice.ensures.chosen in
     let turns : Turns problem (run_of running) guide.seen (run_of c.give.new.running) =
-    given_turns problem (run_of running) guide turn choice (run_of c.give.new.running) (chosen.row.guides problem (sym c.requires.symbols))
+    given_turns problem (run_of running) guide turn choice (run_of c.give.new.running) (chosen.row.guides problem (sym c.requires.opens))
     (ap (λ (n : ℕ). n + 1) c.len.ensures) room chosen c.in_ok-give-in-Some-2.ensures.given in
     turned_right problem guide.seen (run_of running) (run_of c.give.new.running) c.forget.new.self turns
     (dropped_right problem guide.seen running.book.book c.choose.new.marks c.forget.new.self choice.given.number c.forget.ensures c.in_ok-choice.ensures.right)

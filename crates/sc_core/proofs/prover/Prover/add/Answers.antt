@@ -16,7 +16,7 @@ invariant_of-self-2 c =
     let front : IsFrontOf new old = subst (λ (seen : Seen). IsFrontOf seen old) (sym c.in_ok-add.ensures.seen) (grown_front old c.args.finder c.args.version.now) in
     let many : length new ≡ length old = as_many old new front in
     record {
-      symbols = c.in_ok-add.ensures.symbols ∙ kept.symbols;
+      opens = c.in_ok-add.ensures.opening ∙ kept.opens;
       some = (let some = kept.some in omega (arith, many, some));
       few = (let few = kept.few in omega (arith, many, few));
       book = kept.book;

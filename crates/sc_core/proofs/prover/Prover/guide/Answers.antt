@@ -11,7 +11,7 @@ returns-clause-guide c =
     let guide = c.self.inside.guide in (
       guide.name,
       subst (λ (s : ProverState). IsGuide s.problem s.seen guide.name c.version.result.now) c.self.view_is
-          (subst (λ (v : ClaimedStructure). IsGuide problem guide.seen guide.name v) (sym c.version.ensures.value) (c.version.ensures.guide problem (sym c.self.invariant.symbols))),
+          (subst (λ (v : ClaimedStructure). IsGuide problem guide.seen guide.name v) (sym c.version.ensures.value) (c.version.ensures.guide problem (sym c.self.invariant.opens))),
     )
 
 pub returns-clause-only : goal.returns-clause-only
@@ -20,5 +20,5 @@ returns-clause-only c name version h =
     let guide = c.self.inside.guide in
     let here : IsGuide c.args.self.now.problem c.args.self.now.seen guide.name c.version.result.now =
     subst (λ (s : ProverState). IsGuide s.problem s.seen guide.name c.version.result.now) c.self.view_is
-    (subst (λ (v : ClaimedStructure). IsGuide problem guide.seen guide.name v) (sym c.version.ensures.value) (c.version.ensures.guide problem (sym c.self.invariant.symbols))) in
+    (subst (λ (v : ClaimedStructure). IsGuide problem guide.seen guide.name v) (sym c.version.ensures.value) (c.version.ensures.guide problem (sym c.self.invariant.opens))) in
     one_guide c.args.self.now.problem c.args.self.now.seen name guide.name version c.version.result.now h here

@@ -11,7 +11,7 @@ returns-clause-guide c =
     let guide = c.self.inside.guide in (
       guide.version,
       subst (λ (s : ProverState). IsGuide s.problem s.seen c.name.result guide.version) c.self.view_is
-          (subst (λ (n : VersionName). IsGuide problem guide.seen n guide.version) (sym c.name.ensures.value) (c.name.ensures.guide problem (sym c.self.invariant.symbols))),
+          (subst (λ (n : VersionName). IsGuide problem guide.seen n guide.version) (sym c.name.ensures.value) (c.name.ensures.guide problem (sym c.self.invariant.opens))),
     )
 
 pub returns-clause-only : goal.returns-clause-only
@@ -20,5 +20,5 @@ returns-clause-only c name version h =
     let guide = c.self.inside.guide in
     let here : IsGuide c.args.self.now.problem c.args.self.now.seen c.name.result guide.version =
     subst (λ (s : ProverState). IsGuide s.problem s.seen c.name.result guide.version) c.self.view_is
-    (subst (λ (n : VersionName). IsGuide problem guide.seen n guide.version) (sym c.name.ensures.value) (c.name.ensures.guide problem (sym c.self.invariant.symbols))) in
+    (subst (λ (n : VersionName). IsGuide problem guide.seen n guide.version) (sym c.name.ensures.value) (c.name.ensures.guide problem (sym c.self.invariant.opens))) in
     one_name c.args.self.now.problem c.args.self.now.seen name c.name.result version guide.version h here

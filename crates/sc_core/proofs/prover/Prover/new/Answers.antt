@@ -1,9 +1,10 @@
-use Rattle.std.proofs.Common.{◌≡◌, ◌∙◌, sym, ap, subst, ◌≤◌, List, length, arith}
+use Rattle.std.proofs.Common.{◌≡◌, ◌∙◌, sym, ap, subst, List, arith}
 use Rattle.sc_term.specs.declared.symbol.Symbol.{Symbol}
 use Rattle.sc_input_rules.specs.Problem.{Stated}
 use Rattle.sc_core_rules.specs.Start.{Starts}
 use Rattle.sc_core_rules.specs.Run.{started}
 use Rattle.sc_keep.specs.State.{State}
+use Rattle.sc_interp.specs.Versions.{opening}
 use Rattle.sc_mark.specs.Marked.{unmarked}
 use Rattle.sc_guide.specs.Guided.{Guided}
 use Rattle.sc_core.specs.declared.turning.Running.{Running}
@@ -24,7 +25,7 @@ invariant_of-result c =
     let symbols = c.sig-symbols.ensures ∙ sym (ap (λ (p : Stated). p.symbols) problem) in
     let seen = lists_seen c.sig-symbols.result.now c.args.lists guide c.in_ok-guide.ensures in
     record {
-      symbols = ap (λ (g : Guided). g.symbols) c.in_ok-guide.ensures ∙ symbols;
+      opens = ap (λ (g : Guided). g.opening_version) c.in_ok-guide.ensures ∙ ap (λ (names : List Symbol). opening names) symbols;
       some = (let some = c.requires.some in omega (arith, seen, some));
       few = (let few = c.requires.few in omega (arith, seen, few));
       book = λ _. c.in_ok-goal.ensures.whole;

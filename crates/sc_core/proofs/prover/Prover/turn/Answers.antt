@@ -1,5 +1,6 @@
 use Rattle.std.proofs.Common.{ap, sym, subst, ◌∙◌}
 use Rattle.sc_input_rules.specs.Problem.{Stated}
+use Rattle.sc_interp.specs.Versions.{opening}
 use Rattle.sc_core.specs.State.{ProverState, IsReached}
 use Rattle.sc_core.specs.Marking.{AreRight}
 use Rattle.sc_core.specs.Turning.{run_of}
@@ -18,7 +19,7 @@ invariant_of-self c =
     let new = c.turn.new.running in
     let going = ap (λ (s : ProverState). s.run.ended) c.self.view_is ∙ c.requires.going in
     record {
-      symbols = c.self.invariant.symbols ∙ sym (ap (λ (p : Stated). p.symbols) c.in-Ok.ensures.problem);
+      opens = c.self.invariant.opens ∙ sym (ap (λ (p : Stated). opening p.symbols) c.in-Ok.ensures.problem);
       some = c.self.invariant.some;
       few = c.self.invariant.few;
       book = λ whole. c.in-Ok.ensures.whole;
