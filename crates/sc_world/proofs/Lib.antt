@@ -1,5 +1,7 @@
-pub mod RunLaws
-pub mod StartLaws
+pub mod LookLaws
+pub mod AnswerLaws
+pub mod TurnedLaws
+pub mod StepLaws
+pub mod InlineLaws
 pub mod MarkLaws
 pub mod RecordLaws
-pub mod OneRecord

@@ -1,2 +1,4 @@
 pub mod Recorded
 pub mod Underway
+pub mod Steps
+pub mod Printed
