@@ -3,5 +3,6 @@ pub mod AnswerLaws
 pub mod TurnedLaws
 pub mod StepLaws
 pub mod InlineLaws
+pub mod EndLaws
 pub mod MarkLaws
 pub mod RecordLaws

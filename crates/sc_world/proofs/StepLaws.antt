@@ -10,7 +10,6 @@ use Rattle.sc_steps.proofs.ListLaws.{some_and}
 use Rattle.sc_input_rules.specs.Problem.{Stated}
 use Rattle.sc_interp.specs.declared.plain.Claim.{Claim}
 use Rattle.sc_interp.specs.Versions.{ClaimedStructure}
-use Rattle.sc_cells.specs.Cells.{cell_count}
 use Rattle.sc_core_rules.specs.declared.row.Outcome.{Outcome}
 use Rattle.sc_core_rules.specs.declared.row.Outcome.TheVariants as outcome
 use Rattle.sc_core_rules.specs.Book.{Book}
@@ -50,19 +49,22 @@ none_went (Some o) = by o
     by (outcome.KeptLimit n) = refl
     by (outcome.WorkLimit n) = refl
 
+-- whether there are more cells or not, none was worked
+none_worked : (cells left : ℕ) → Where (4096 < cells) (◌≡◌ {A = ℕ} 0 0) (◌≡◌ {A = ℕ} 0 (min 0 left))
+none_worked cells left = by (compared 4096 cells)
+  where
+    by : (4096 < cells) ⊎ (4096 ≡ cells) ⊎ (cells < 4096) → Where (4096 < cells) (◌≡◌ {A = ℕ} 0 0) (◌≡◌ {A = ℕ} 0 (min 0 left))
+    by (inl less) = inl (less, refl)
+    by (inr (inl e)) = inr ((λ h. absurd (omega (arith, e, h))), omega arith)
+    by (inr (inr more)) = inr ((λ h. absurd (omega (arith, more, h))), omega arith)
+
 -- before the first candidate
 module _ (problem : Stated) (plan : Plan) where
   abbrev first_choice : Choice
   first_choice = at_first problem plan 1
 
-  wide_or_not : Where (IsTooWide first_choice) (0 ≡ 0) (0 ≡ min 0 (length first_choice.left))
-  wide_or_not = by (compared 4096 (cell_count problem.symbols first_choice.size))
-    where
-      by : (4096 < cell_count problem.symbols first_choice.size) ⊎ (4096 ≡ cell_count problem.symbols first_choice.size) ⊎ (cell_count problem.symbols first_choice.size < 4096)
-          → Where (IsTooWide first_choice) (0 ≡ 0) (0 ≡ min 0 (length first_choice.left))
-      by (inl less) = inl (less, refl)
-      by (inr (inl e)) = inr ((λ h. absurd (omega (arith, e, h))), omega arith)
-      by (inr (inr more)) = inr ((λ h. absurd (omega (arith, more, h))), omega arith)
+  wide_or_not : Where (IsTooWide first_choice) (◌≡◌ {A = ℕ} 0 0) (◌≡◌ {A = ℕ} 0 (min 0 (length first_choice.left)))
+  wide_or_not = none_worked _ (length first_choice.left)
 
   at_the_start : (book : Book) (goal : Option ℕ) → IsUnderway first_choice (at_start problem 1 book goal) first_choice
   at_the_start book goal = record {
@@ -71,7 +73,7 @@ module _ (problem : Stated) (plan : Plan) where
     answers = [];
     finds = all_worked;
     chooses = refl;
-    many = subst (λ (n : ℕ). Where (IsTooWide first_choice) (0 ≡ 0) (0 ≡ min n (length first_choice.left))) (sym (none_went (started book goal).ended)) wide_or_not;
+    many = subst (λ (n : ℕ). Where (IsTooWide first_choice) (◌≡◌ {A = ℕ} 0 0) (◌≡◌ {A = ℕ} 0 (min n (length first_choice.left)))) (sym (none_went (started book goal).ended)) wide_or_not;
     whole = refl;
     same = refl;
     sees = refl;

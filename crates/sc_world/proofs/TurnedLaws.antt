@@ -67,7 +67,7 @@ module _ (problem : Stated) (answers : List (Option ClaimedStructure)) (seen : S
   }
 
   module _ (i : Infer problem (length old.given + 1) old seen new) (below : ¬ (length old.given ≡ problem.params.max_given)) where
-    row : GivenRow
+    abbrev row : GivenRow
     row = record { turn = length old.given + 1; number = i.given.number; cause = i.cause; name = i.name; truth = i.truth; lengths = map (λ (vs : List ClaimedStructure). length vs) seen }
 
     rows : new.given ≡ old.given ++ row ∷ []
