@@ -9,8 +9,8 @@ use Rattle.sc_world.proofs.record.finish.Goals as goal
 
 pub returns : goal.returns
 returns c = λ plan first.
-    let prover = c.run_to_its_end-outcome.new.prover in
-    let chooser = c.run_to_its_end-outcome.new.chooser in
+    let prover = c.run_to_its_end.new.prover in
+    let chooser = c.run_to_its_end.new.chooser in
     let ended = c.in_ok-ended.ended in
     subst (λ (shelves : Seen). IsRecord c.args.problem.now plan shelves (run_value ended.run)) (sym c.in_ok-ended.ensures.shelves)
     (subst (λ (run : RunText). IsRecord c.args.problem.now plan prover.seen (run_value run)) (sym c.in_ok-ended.ensures.run)
