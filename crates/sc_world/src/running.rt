@@ -55,11 +55,7 @@ fn step(alloc: Global, prover: &mut Prover, chooser: &mut Chooser<'_>) -> Mem<()
 }
 
 /// Turns until the run has ended; it ends at the latest when as many clauses were given as may be.
-pub fn run_to_its_end(
-    alloc: Global,
-    prover: &mut Prover,
-    chooser: &mut Chooser<'_>,
-) -> Mem<Outcome>
+pub fn run_to_its_end(alloc: Global, prover: &mut Prover, chooser: &mut Chooser<'_>) -> Mem<Outcome>
     requires few { length chooser.old.left ≤ 128 }
     requires underway { IsUnderway chooser.old prover.old chooser.old }
     ensures outcome { IfOk result (λ outcome. prover.new.run.ended ≡ Some outcome) }
