@@ -1,5 +1,5 @@
 -- The looks that given rows tell are fronts of the lists, and never shrink.
-use Rattle.std.proofs.Common.{◌≡◌, ap, refl, ℕ, zero, suc, ◌<◌, ◌≤◌, List, [], ◌∷◌, ◌++◌, length, map, take, drop, arith}
+use Rattle.std.proofs.Common.{◌≡◌, ap, refl, ℕ, zero, suc, ◌≤◌, List, [], ◌∷◌, length, map, take, drop, arith}
 use Rattle.std.specs.List.{All, AllZip, AllPairs, AllByRecursion}
 use Rattle.std.proofs.lemmas.List.{append-nil, take-append-drop}
 use Rattle.std.proofs.lemmas.List.Elements.{All-nil, All-from_recursion}

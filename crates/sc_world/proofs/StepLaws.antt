@@ -1,20 +1,18 @@
 -- What a run under way keeps, from its start and by each step.
-use Rattle.std.proofs.Common.{◌≡◌, ◌∙◌, sym, ap, subst, refl, ℕ, zero, suc, ◌+◌, ◌<◌, ◌≤◌, ◌⊎◌, inl, inr, List, [], ◌∷◌, ◌++◌, length, take, drop, filter, min, Option, Some, None, arith}
+use Rattle.std.proofs.Common.{◌≡◌, ◌∙◌, sym, ap, subst, refl, ℕ, suc, ◌+◌, ◌<◌, ◌≤◌, ◌⊎◌, inl, inr, List, [], ◌∷◌, ◌++◌, length, take, drop, filter, min, Option, Some, None, arith}
 use Rattle.std.specs.Prelude.{◌≢◌, ◌^◌}
-use Rattle.std.specs.List.{AllByRecursion}
 use Rattle.std.proofs.lemmas.List.{append-nil, length-take, length-take-le}
 use Rattle.sc_term.specs.declared.Numbered.{Numbered}
 use Rattle.sc_term.specs.Numbering.{numbered}
 use Rattle.sc_steps.proofs.LineLaws.{number_within}
 use Rattle.sc_steps.proofs.ListLaws.{some_and}
 use Rattle.sc_input_rules.specs.Problem.{Stated}
-use Rattle.sc_interp.specs.declared.plain.Claim.{Claim}
 use Rattle.sc_interp.specs.Versions.{ClaimedStructure}
 use Rattle.sc_core_rules.specs.declared.row.Outcome.{Outcome}
 use Rattle.sc_core_rules.specs.declared.row.Outcome.TheVariants as outcome
 use Rattle.sc_core_rules.specs.Book.{Book}
 use Rattle.sc_core_rules.specs.Order.{Where}
-use Rattle.sc_core_rules.specs.Start.{Starts, input_clauses}
+use Rattle.sc_core_rules.specs.Start.{input_clauses}
 use Rattle.sc_core_rules.specs.Selection.{Seen}
 use Rattle.sc_core_rules.specs.Turn.{Run, Turns}
 use Rattle.sc_core_rules.specs.Run.{started}
@@ -29,12 +27,12 @@ use Rattle.sc_worker.specs.declared.worked.Worked.{Worked}
 use Rattle.sc_worker.specs.declared.worked.Worked.TheVariants.{Joined, Skipped, Done, Wide}
 use Rattle.sc_worker.specs.FinderList.{Answers, all_worked, joins, skips, MayBeSkipped, version_with, with_claim, task_for, claims_after, versions_of, is_light, candidates_of}
 use Rattle.sc_worker.specs.Choosing.{Choice, at_first, IsTooWide, IsReason, IsJoined, IsSkipped, IsWorked}
-use Rattle.sc_world.specs.Recorded.{SeesAll, turns_went}
+use Rattle.sc_world.specs.Recorded.{turns_went}
 use Rattle.sc_world.specs.Steps.{MayGrow, IsTurned, seeing, IsNextWorked, IsStep}
 use Rattle.sc_world.specs.Underway.{HasStarted, went, chooser_after, IsUnderway, turns_left}
 use Rattle.sc_worker.proofs.FinderLaws.{claims_append, versions_append, answers_append, length_of_answers}
 use Rattle.sc_world.proofs.AnswerLaws.{next_is, none_left, few_versions}
-use Rattle.sc_world.proofs.TurnedLaws.{IsBy, IsAfter, still_sees, after_turn}
+use Rattle.sc_world.proofs.TurnedLaws.{IsAfter, still_sees, after_turn}
 
 -- ---- the start
 

@@ -1,5 +1,5 @@
 -- A turn of a run under way: the rows that it leaves, and how many more turns there may be.
-use Rattle.std.proofs.Common.{◌≡◌, ◌∙◌, sym, ap, subst, refl, ℕ, zero, suc, ◌+◌, ◌-◌, ◌<◌, ◌≤◌, inl, inr, List, [], ◌∷◌, ◌++◌, length, length-append, map, take, Option, Some, None, arith}
+use Rattle.std.proofs.Common.{◌≡◌, ◌∙◌, sym, ap, subst, refl, ℕ, ◌+◌, ◌-◌, ◌<◌, ◌≤◌, inl, inr, List, [], ◌∷◌, ◌++◌, length, length-append, map, take, Option, Some, None, arith}
 use Rattle.std.specs.List.{AllByRecursion}
 use Rattle.std.proofs.lemmas.List.{take_all, take-append-le}
 use Rattle.sc_term.proofs.SubstitutionLaws.{all_join}
@@ -13,7 +13,7 @@ use Rattle.sc_core_rules.specs.WorkList.{Finish, Done, Found, TooMany}
 use Rattle.sc_core_rules.specs.Turn.{Run, Turns, Infer, outcome_of, with_end}
 use Rattle.sc_worker.specs.FinderList.{versions_of}
 use Rattle.sc_world.specs.Recorded.{SeesAll, turns_went}
-use Rattle.sc_world.specs.Underway.{went, turns_left}
+use Rattle.sc_world.specs.Underway.{turns_left}
 
 -- ---- rows
 

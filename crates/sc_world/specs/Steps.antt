@@ -1,7 +1,6 @@
 -- A turn, and the candidate that is worked after it.
-use Rattle.std.specs.Prelude.{◌≡◌, ◌<◌, ◌^◌, [], Some, None, IsSomeAnd, length, true}
+use Rattle.std.specs.Prelude.{◌≡◌, ◌<◌, ◌^◌, [], None, IsSomeAnd, length, true}
 use Rattle.sc_term.specs.Numbering.{numbered}
-use Rattle.sc_interp.specs.Versions.{ClaimedStructure}
 use Rattle.sc_core_rules.specs.Order.{Where}
 use Rattle.sc_core_rules.specs.Selection.{Seen}
 use Rattle.sc_core_rules.specs.Turn.{Turns}
