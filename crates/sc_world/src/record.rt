@@ -105,7 +105,7 @@ fn rows(
     let (proof, marks) = told;
     Ok(RunText {
         ratio: ratio(problem),
-        lists: lists_text(alloc, prover.seen().as_slice())?,
+        lists: lists_text(alloc, prover.seen())?,
         given: copy_given_rows(alloc, prover.given().as_slice())?,
         kept: copy_kept_rows(alloc, prover.kept().as_slice())?,
         ends: one_end(alloc, chooser)?,
@@ -138,7 +138,7 @@ fn with_shelves(alloc: Global, prover: &Prover, run: RunText) -> Mem<Ended>
     ensures shelves { IfOk result (λ ended. ended.shelves ≡ prover.now.seen) }
     ensures run { IfOk result (λ ended. ended.run ≡ run) }
 {
-    let shelves = copy_lists(alloc, prover.seen().as_slice())?;
+    let shelves = copy_lists(alloc, prover.seen())?;
     Ok(Ended { shelves, run })
 }
 
