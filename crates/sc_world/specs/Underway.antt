@@ -26,7 +26,7 @@ went (Some outcome) rows = turns_went outcome rows
 abbrev pub chooser_after : Choice → ℕ → List (Option ClaimedStructure) → Choice
 chooser_after first worked answers = record first { claims = claims_after [] answers; left = drop worked first.left }
 
--- the run of a prover, and the chooser that began as the first one
+-- the prover's run is under way, and so is the work of the finder whose chooser began as the first one
 pub record IsUnderway (first : Choice) (prover : ProverState) (choice : Choice) : Type 0 where
   -- so many candidates were worked, of those that there are
   pub worked : ℕ
