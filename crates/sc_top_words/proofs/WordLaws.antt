@@ -1,5 +1,5 @@
 -- So many words, and the one command that they ask for.
-use Rattle.std.proofs.Common.{◌≡◌, ◌∙◌, sym, ap, subst, refl, inl, inr, ◌⊎◌, ◌≤◌, ℕ, List, [], ◌∷◌, length, arith}
+use Rattle.std.proofs.Common.{◌≡◌, ◌∙◌, sym, ap, refl, inl, inr, ◌≤◌, ℕ, List, [], ◌∷◌, length, arith}
 use Rattle.std.specs.Prelude.{◌≢◌, Option, Some, None, MatchOption, String, string_bytes, codes}
 use Rattle.std.specs.declared.alloc.Global.{Global}
 use lib.ListN.{get_or}
@@ -75,6 +75,18 @@ one_command words Check (Model t n) h k = absurd (check_or_model words t n h k)
 one_command words (Model t n) Check h k = absurd (check_or_model words t n k h)
 one_command words (Prove plan) (Model t n) h k = absurd (prove_or_model words plan t n h k)
 one_command words (Model t n) (Prove plan) h k = absurd (prove_or_model words plan t n k h)
+
+-- ---- neither check nor prove is asked for
+
+pub only_model : (words : List (String Global)) (result : Option Command) → ¬ IsCheck words → ((plan : Plan) → ¬ AskForProof words plan)
+    → MatchOption result ((s n : ℕ) → ¬ AskForModel words s n) (Asks words) → MatchOption result ((command : Command) → ¬ Asks words command) (Asks words)
+only_model words None check prove h = by
+  where
+    by : (command : Command) → ¬ Asks words command
+    by Check asked = check asked
+    by (Prove plan) asked = prove plan asked
+    by (Model size nodes) asked = h size nodes asked
+only_model words (Some command) check prove h = h
 
 -- ---- no size is asked for
 
