@@ -1,5 +1,5 @@
 -- The answer to bytes whose problem is to be proved.
-use Rattle.std.proofs.Common.{◌≡◌, ◌∙◌, sym, ap, subst, refl, ℕ, ◌<◌, ◌≤◌, ◌⊎◌, inl, inr, Bool, true, false, List, length, Result, Ok, Err}
+use Rattle.std.proofs.Common.{◌≡◌, ◌∙◌, sym, ap, subst, refl, ℕ, ◌<◌, ◌≤◌, inl, inr, Bool, true, false, List, length, Result, Ok, Err}
 use Rattle.std.specs.Prelude.{nat_lt}
 use Rattle.std.proofs.lemmas.Bool.{lt-ltb, le-ltb}
 use Rattle.sc_input_rules.specs.declared.fault.Place.{Place}
@@ -67,7 +67,7 @@ one_text : (plan : Plan) (bytes : List ℕ) (o p : Outcome) (text other : List �
 one_text plan bytes o p text other never h k =
     let problem : h.problem ≡ k.problem = one_problem bytes h.problem k.problem h.is_read k.is_read in
     let run : h.run ≡ k.run = one_record k.problem plan (read_problem bytes k.problem (spells bytes k.problem k.is_read)) (never k.problem k.is_read) h.versions k.versions h.run k.run
-        (subst (λ (p : Stated). IsRecord p plan h.versions h.run) problem h.recorded) k.recorded in
+    (subst (λ (p : Stated). IsRecord p plan h.versions h.run) problem h.recorded) k.recorded in
     (sym h.ended ∙ ap (λ (r : RunValue). r.outcome) run ∙ k.ended, h.printed ∙ (λ j. run_text (problem j).symbols (run j)) ∙ sym k.printed)
 
 both_refused : (bytes : List ℕ) (p q : Place) → spelled_problem bytes ≡ Err p → spelled_problem bytes ≡ Err q → p ≡ q
