@@ -12,9 +12,12 @@
 //!
 //! It stands on the prover, on the chooser of candidates, on the marks of any clause (`sc_interp`), on the laws of
 //! `sc_core_laws`, and on the value of a run (`sc_text_run_rules`). `specs/Underway` says what is kept from turn to turn.
-//! Callers may rest on the record alone. Want of memory is the one other answer; a proof of 2^32 lines or more counts as
-//! that.
+//! Callers may rest on the record alone: where no search for a model is spent, a problem and a plan have one
+//! (`proofs/OneInline`), and a text is decided by the versions that it lists and by how many of them each turn saw
+//! (`text_is_one`). Want of memory is the one other answer; a proof of 2^32 lines or more counts as that.
 #![tactic(auto)]
+
+ghost use Rattle.sc_world.specs.OneText.{TextIsOne};
 
 mod copies;
 mod lines;
@@ -23,3 +26,9 @@ mod record;
 mod running;
 
 pub use record::{Ended, prove_alone};
+
+/// The law that two texts which tell runs over the same versions, with the same lengths in their given rows, are equal but
+/// for the ends of the finders.
+pub fn text_is_one()
+    ensures { TextIsOne }
+{}
