@@ -21,6 +21,7 @@
 //! room for eight readers: the window's, and one for each note that isn't spent.
 #![tactic(auto)]
 
+pub mod beside;
 mod compare;
 mod copies;
 mod entry;
