@@ -33,6 +33,6 @@ pub press_send : IsSend Press.the_row
 press_send = search (writer.the_field_send, store_send, store_sync, entry_send, crosses, sendable) depth 60 fits 20000
 
 pub window_send : IsSend Window.the_row
-window_send = search (reader.the_field_send, reader.the_send, version_send, store_send, store_sync, crosses, sendable) depth 60 fits 20000
+window_send = search (reader.the_field_send, reader.the_send, version_send, store_sync, crosses, sendable) depth 60 fits 20000
 
 pub ruleset crossing = (press_send, window_send, version_send, version_sync)

@@ -30,7 +30,7 @@ fn publish_copy<R: Wait>(rt: &R, alloc: Global, press: &mut Press, version: &Ver
 }
 
 /// Publishes a copy of each version, in order.
-pub fn publish_each<R: Wait>(
+fn publish_each<R: Wait>(
     rt: &R,
     alloc: Global,
     press: &mut Press,
@@ -51,6 +51,7 @@ pub fn publish_each<R: Wait>(
     Ok(())
 }
 
+#[tactic(auto, using(crate::proofs::LookLaws::looked_refused))]
 fn look_noted(window: &mut Window) -> Mem<()>
     requires room { length window.old.looks < 2 ^ 31 }
     ensures looked { Looked window.old window.new }
@@ -63,7 +64,7 @@ fn look_noted(window: &mut Window) -> Mem<()>
 
 /// Looks so many times, or until a look is refused.
 #[tactic(auto, using(crate::proofs::LookLaws::looked_none, crate::proofs::LookLaws::looked_on))]
-pub fn look_times(window: &mut Window, times: u32) -> Mem<()>
+fn look_times(window: &mut Window, times: u32) -> Mem<()>
     requires room { length window.old.looks + times ≤ 2 ^ 31 }
     ensures looked { Looked window.old window.new }
     ensures few { length window.new.looks ≤ length window.old.looks + times }
@@ -76,7 +77,7 @@ pub fn look_times(window: &mut Window, times: u32) -> Mem<()>
 }
 
 /// Publishes a copy of each version in one thread while another looks so many times.
-pub fn publish_beside_looks<R: Threads + Wait + Sync>(
+fn publish_beside_looks<R: Threads + Wait + Sync>(
     rt: &R,
     alloc: Global,
     press: &mut Press,

@@ -21,7 +21,7 @@
 //! room for eight readers: the window's, and one for each note that isn't spent.
 #![tactic(auto)]
 
-pub mod beside;
+mod beside;
 mod compare;
 mod copies;
 mod entry;
@@ -32,10 +32,13 @@ mod rule;
 mod shelf;
 mod sight;
 mod store;
+#[cfg(test)]
+mod tests;
 mod told;
 mod view;
 mod window;
 
+pub use beside::publish_while_looking;
 pub use finish::look_last;
 pub use press::Press;
 pub use sc_interp::Version;
