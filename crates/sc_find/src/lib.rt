@@ -13,9 +13,11 @@ mod answer;
 mod checking;
 mod find;
 mod job;
+mod mentions;
 mod pieces;
 mod readers;
 mod search;
+mod stretches;
 mod tables;
 
 pub use answer::{Found, FoundAll, JobError, Piece};
