@@ -1,5 +1,5 @@
 -- A clause that doesn't mention a symbol reads no cell of it, whatever the values.
-use Rattle.std.proofs.Common.{◌≡◌, ◌∙◌, sym, ap, refl, ℕ, Bool, true, false, ◌&&◌, ◌||◌, List, [], ◌∷◌, length, map, nat_eq, Option, Some, slice_get, slice_index}
+use Rattle.std.proofs.Common.{◌≡◌, ◌∙◌, sym, ap, refl, ℕ, Bool, true, false, ◌&&◌, ◌||◌, List, [], ◌∷◌, map, nat_eq, Some, slice_get, slice_index}
 use Rattle.std.specs.List.{AllByRecursion, list_any}
 use Rattle.sc_term.specs.declared.SymId.{SymId}
 use Rattle.sc_term.specs.declared.Term.{Term, Var}

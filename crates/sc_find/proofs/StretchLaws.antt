@@ -6,7 +6,7 @@ use Rattle.std.proofs.lemmas.Option.{slice_get_within}
 use Rattle.sc_term.specs.declared.Clause.{Clause}
 use Rattle.sc_cells.specs.declared.instances.GroundInstance.{GroundInstance}
 use Rattle.sc_find.specs.declared.stretches.Stretch.{Stretch}
-use Rattle.sc_find.specs.Asked.{clause_mentions, IsWithin, AreStretches, AreChosen, AreAsked}
+use Rattle.sc_find.specs.Asked.{clause_mentions, AreStretches, AreChosen, AreAsked}
 use Rattle.sc_find.proofs.InstanceLaws.{is_first, contained_at}
 
 pub less_or_not : (m n : ℕ) → (m < n) ⊎ (n ≤ m)

@@ -1,4 +1,4 @@
-use Rattle.std.proofs.Common.{◌≡◌, ◌≤◌, Some, length, slice_get, get_or, arith}
+use Rattle.std.proofs.Common.{get_or, arith}
 use Rattle.std.proofs.lemmas.Option.{slice_get-get_or}
 use Rattle.sc_find.specs.declared.stretches.Stretch.{Stretch}
 use Rattle.sc_find.proofs.ReaderLaws.{stretch_in, asked_within, all_in}

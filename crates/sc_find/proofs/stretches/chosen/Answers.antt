@@ -1,5 +1,4 @@
 use Rattle.std.proofs.Common.{◌≡◌, ◌∙◌, sym, refl, ◌<◌, false, Some, length, slice_get, get_or}
-use Rattle.std.specs.List.{All}
 use Rattle.std.proofs.lemmas.Option.{slice_get-get_or, slice_get_read}
 use Rattle.sc_find.specs.declared.stretches.Stretch.{Stretch}
 use Rattle.sc_find.specs.Asked.{clause_mentions}

@@ -1,6 +1,5 @@
 use Rattle.std.proofs.Common.{◌-◌, length}
 use Rattle.sc_find.specs.Asked.{AreStretches}
-use Rattle.sc_find.proofs.StretchLaws.{no_stretches}
 use Rattle.sc_find.proofs.stretches.stretches_of.Given as goal
 
 abbrev pub invariant-loop-at : goal.invariant-loop-at
