@@ -1,6 +1,7 @@
 -- A prover that sees one version more after another of a finder's list.
 use Rattle.std.proofs.Common.{◌≡◌, ◌∙◌, sym, ap, subst, refl, ℕ, zero, suc, ◌+◌, ◌-◌, ◌<◌, ◌≤◌, ◌^◌, List, [], ◌∷◌, ◌++◌, length, slice_get, get_or, take, Option, Some, None, arith}
 use Rattle.std.specs.Prelude.{slice_set, IsSomeAnd}
+use Rattle.std.proofs.lemmas.List.{length-take-le}
 use Rattle.sc_term.specs.Numbering.{numbered, with_element}
 use Rattle.sc_interp.specs.Versions.{ClaimedStructure}
 use Rattle.sc_core_rules.specs.Selection.{Seen}
@@ -55,19 +56,28 @@ element_there lists (suc i) versions now e =
     subst (λ (k : ℕ). numbered (slice_set lists k now) (suc i) ≡ Some now) (less_one i)
     (numbered-suc (slice_set lists i now) i ∙ set_there lists i now versions (sym (numbered-suc lists i) ∙ e))
 
+pub numbered_at : (lists : Seen) (n : ℕ) (versions : List ClaimedStructure) → 1 ≤ n → slice_get lists (n - 1) ≡ Some versions → numbered lists n ≡ Some versions
+numbered_at lists zero versions some e = absurd (omega (arith, some))
+numbered_at lists (suc i) versions some e = numbered-suc lists i ∙ subst (λ (k : ℕ). slice_get lists k ≡ Some versions) (sym (less_one i)) e
+
 pub grown_is : (lists : Seen) (n : ℕ) (versions : List ClaimedStructure) (v : ClaimedStructure) → numbered lists n ≡ Some versions → grown lists n v ≡ with_element lists n (versions ++ v ∷ [])
 grown_is lists n versions v e =
     ap (λ (o : Option (List ClaimedStructure)). elim o [ None ↦ lists | Some vs ↦ with_element lists n (vs ++ v ∷ []) ]) e
 
 -- ---- one version more is seen
 
-take_more : {X : Type 0} (xs : List X) (k : ℕ) (x : X) → slice_get xs k ≡ Some x → take k xs ++ x ∷ [] ≡ take (k + 1) xs
+take_more : {X : Type 0} (xs : List X) (k : ℕ) (x : X) → slice_get xs k ≡ Some x → take k xs ++ x ∷ [] ≡ take (suc k) xs
 take_more {X} [] k x e = let bad : ◌≡◌ {A = Option X} None (Some x) = e in absurd cc
 take_more (y ∷ ys) zero x e =
     let some : Some y ≡ Some x = e in
     let same : x ≡ y = cc in
     ap (λ z. z ∷ []) same
 take_more (y ∷ ys) (suc k) x e = ap (λ zs. y ∷ zs) (take_more ys k x e)
+
+take_one_more : (xs : List ClaimedStructure) (k : ℕ) (x : ClaimedStructure) → slice_get xs k ≡ Some x → take k xs ++ x ∷ [] ≡ take (k + 1) xs
+take_one_more xs k x e =
+    let next : suc k ≡ k + 1 = omega arith in
+    take_more xs k x e ∙ ap (λ (n : ℕ). take n xs) next
 
 module _ (f : ℕ) (versions : List ClaimedStructure) (from : ℕ) (old : ProverState) (first : numbered old.seen f ≡ Some (take from versions)) where
   pub starts_seeing : from ≤ length versions → IsSeeing f versions from from old old
@@ -79,6 +89,12 @@ module _ (f : ℕ) (versions : List ClaimedStructure) (from : ℕ) (old : Prover
 
   pub sees_now : (place : ℕ) (prover : ProverState) → IsSeeing f versions from place old prover → numbered prover.seen f ≡ Some (take place versions)
   sees_now place prover h = ap (λ (p : ProverState). numbered p.seen f) h.sees ∙ element_there old.seen f (take from versions) (take place versions) first
+
+  pub few_seen : (place : ℕ) (prover : ProverState) → IsSeeing f versions from place old prover → place < length versions → length versions ≤ 2 ^ 31
+      → IsSomeAnd (numbered prover.seen f) (λ (vs : List ClaimedStructure). length vs < 2 ^ 31)
+  few_seen place prover h less few =
+      let long = length-take-le place versions h.within in
+      subst (λ (o : Option (List ClaimedStructure)). IsSomeAnd o (λ (vs : List ClaimedStructure). length vs < 2 ^ 31)) (sym (sees_now place prover h)) (omega (arith, long, less, few))
 
   pub sees_next : (place : ℕ) (prover new : ProverState) (v : ClaimedStructure) → IsSeeing f versions from place old prover → slice_get versions place ≡ Some v
       → place < length versions → new ≡ record prover { seen = grown prover.seen f v } → IsSeeing f versions from (place + 1) old new
@@ -94,6 +110,6 @@ module _ (f : ℕ) (versions : List ClaimedStructure) (from : ℕ) (old : Prover
       seen : grown prover.seen f v ≡ with_element old.seen f (take (place + 1) versions)
       seen =
           grown_is prover.seen f (take place versions) v now
-          ∙ ap (λ (vs : List ClaimedStructure). with_element prover.seen f vs) (take_more versions place v is)
+          ∙ ap (λ (vs : List ClaimedStructure). with_element prover.seen f vs) (take_one_more versions place v is)
           ∙ ap (λ (p : ProverState). with_element p.seen f (take (place + 1) versions)) h.sees
           ∙ set_twice old.seen (f - 1) (take place versions) (take (place + 1) versions)
