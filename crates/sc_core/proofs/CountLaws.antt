@@ -1,10 +1,12 @@
 -- How many clauses a run has derived, kept and given.
-use Rattle.std.proofs.Common.{◌≡◌, ◌≢◌, ◌∙◌, sym, ap, subst, refl, ℕ, ◌+◌, ◌<◌, ◌≤◌, inl, inr, List, [], ◌∷◌, ◌++◌, length, length-append, Option, Some, None, Bool, true, false, arith}
+use Rattle.std.proofs.Common.{◌≡◌, ◌≢◌, ◌∙◌, sym, ap, subst, refl, ℕ, ◌+◌, ◌<◌, ◌≤◌, inl, inr, List, [], ◌∷◌, ◌++◌, length, length-append, map, Option, Some, None, Bool, true, false, arith}
 use Rattle.std.specs.Prelude.{IsSome}
+use Rattle.std.proofs.lemmas.List.{length-map}
 use Rattle.sc_term.specs.declared.Clause.{Clause}
 use Rattle.sc_term.specs.declared.Line.{Line}
 use Rattle.sc_term.specs.declared.Numbered.{Numbered}
 use Rattle.sc_steps.specs.declared.derivations.derivation.Derived.{Derived}
+use Rattle.sc_steps.specs.Derivation.{all_clauses}
 use Rattle.sc_input_rules.specs.Problem.{Stated}
 use Rattle.sc_core_rules.specs.declared.fate.Fate.TheVariants.{Empty}
 use Rattle.sc_core_rules.specs.declared.fate.Processed.{Processed}
@@ -218,3 +220,7 @@ module _ (problem : Stated) where
     starts = h.starts;
     goes = goes_over_more looks look (started h.book h.goal) run run h.goes (inl (subst IsSome (sym ended) refl, refl));
   }
+
+-- how many clauses have a number
+pub count_all : (inputs : List Clause) (derived : List Derived) → length (all_clauses inputs derived) ≡ length inputs + length derived
+count_all inputs derived = length-append inputs (map (λ (d : Derived). d.clause) derived) ∙ ap (λ n. length inputs + n) (length-map derived (λ (d : Derived). d.clause))

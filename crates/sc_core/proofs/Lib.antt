@@ -1,6 +1,10 @@
-pub mod ChoiceLaws
+pub mod WaitingLaws
+pub mod SeenLaws
+pub mod LookLaws
+pub mod GrowingLaws
+pub mod MarkLaws
+pub mod SelectLaws
 pub mod CountLaws
-pub mod InferLaws
 pub mod TurningLaws
 pub mod ProverLaws
 pub mod OverParents

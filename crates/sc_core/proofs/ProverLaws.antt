@@ -1,12 +1,13 @@
 -- What a prover's run keeps.
-use Rattle.std.proofs.Common.{◌≡◌, ◌∙◌, sym, ap, subst, refl, ℕ, ◌+◌, ◌<◌, ◌≤◌, inl, inr, List, [], ◌∷◌, ◌++◌, length, length-append, map, take, Option, Some, None, arith}
-use Rattle.std.specs.List.{AllZip, AllByRecursion}
-use Rattle.std.proofs.lemmas.List.{length-map, map-append, take_all}
+use Rattle.std.proofs.Common.{◌≡◌, ◌∙◌, sym, ap, subst, refl, ℕ, ◌+◌, ◌<◌, ◌≤◌, inl, inr, List, [], ◌∷◌, ◌++◌, length, length-append, get_or, map, Option, Some, None, arith}
+use Rattle.std.specs.List.{AllPairs, AllByRecursion}
+use Rattle.std.proofs.lemmas.List.{length-map, length-replicate, map-append}
+use Rattle.std.proofs.lemmas.List.Quantifiers.{all_pairs_push}
 use Rattle.sc_term.proofs.SubstitutionLaws.{all_join}
-use Rattle.sc_interp.specs.Versions.{ClaimedStructure}
 use Rattle.sc_core_rules.specs.declared.row.GivenRow.{GivenRow}
 use Rattle.sc_core_rules.specs.declared.row.Outcome.{Outcome}
 use Rattle.sc_term.specs.declared.Line.{Line}
+use Rattle.sc_term.specs.declared.symbol.Symbol.{Symbol}
 use Rattle.sc_term.specs.Proof.{IsProof}
 use Rattle.sc_term.specs.Refuted.{IsRefuted}
 use Rattle.sc_term.specs.Numbering.{numbered}
@@ -21,64 +22,84 @@ use Rattle.sc_core_rules.specs.Book.{Book, numbered_clauses}
 use Rattle.sc_core_rules.specs.Start.{Starts}
 use Rattle.sc_core_rules.specs.Selection.{Seen}
 use Rattle.sc_core_rules.specs.Turn.{Run, Turns, Infer, with_end}
-use Rattle.sc_core_rules.specs.Run.{IsRun, started, prefixes}
+use Rattle.sc_core_rules.specs.Run.{IsRun, started}
 use Rattle.sc_core_rules.proofs.GoalLaws.{IsEmptyAt, run_goal, run_refutes}
 use Rattle.sc_core_laws.specs.LeavesInTime.{LeavesInTime}
+use Rattle.sc_core_laws.specs.TrueRows.{IsFrontOf}
+use Rattle.sc_guide.specs.Guided.{Guided, nothing_seen, lengths_of}
 use Rattle.sc_core.specs.Counts.{IsCounted}
-use Rattle.sc_core.specs.State.{look_told, looks_led, AreLengthsIn, IsReached, LeaveInTimeSoFar}
+use Rattle.sc_core.specs.State.{look_told, looks_led, AreLengthsIn, SeesNoFewer, IsReached, LeaveInTimeSoFar}
 use Rattle.sc_core.proofs.CountLaws.{run_counted, run_turns, run_stays}
+use Rattle.sc_core.proofs.LookLaws.{whole_look, all_lengths, no_more, at_place, told_stay, same_led, one_more}
 
--- ---- looks
-
--- fronts as long as the lists are the lists
-pub whole_look : (seen : Seen) → prefixes (map (λ (vs : List ClaimedStructure). length vs) seen) seen ≡ seen
-whole_look [] = refl
-whole_look (versions ∷ seen) =
-    let first : take (length versions) versions ≡ versions = take_all (length versions) versions (omega arith) in
-    let rest = whole_look seen in
-    λ i. first i ∷ rest i
-
-abbrev AreLengths : List ℕ → Seen → Type 0
-AreLengths ns seen = AllZip (λ (n : ℕ) (versions : List ClaimedStructure). n ≤ length versions) ns seen
-
-all_lengths : (seen : Seen) → AreLengths (map (λ (vs : List ClaimedStructure). length vs) seen) seen
-all_lengths [] = tt
-all_lengths (versions ∷ seen) = (omega arith, all_lengths seen)
+-- so many lists are seen at the start
+pub lists_seen : (symbols : List Symbol) (lists : ℕ) (guide : Guided) → guide ≡ nothing_seen symbols lists → length guide.seen ≡ lists
+lists_seen symbols lists guide e = ap (λ (g : Guided). length g.seen) e ∙ length-replicate lists []
 
 module _ (problem : Stated) where
-  -- a run over the looks of its rows alone is one over those that led to it: a run that has ended takes no more
+  -- ---- the last look once more
+
+  -- a run over the looks of its rows alone is one over those that led to it: a run that has ended takes one look more
   settled : (seen : Seen) (run : Run) → IsRun problem (map (look_told seen) run.given) run → IsRun problem (looks_led run.ended run.given seen) run
   settled seen run h = by run.ended refl
     where
       by : (o : Option Outcome) → run.ended ≡ o → IsRun problem (looks_led o run.given seen) run
       by None e = h
-      by (Some o) e = run_stays problem (map (look_told seen) run.given) seen run h o e
+      by (Some o) e =
+          let more = one_more run.given seen o in
+          subst (λ (looks : List Seen). IsRun problem looks run) (sym more.1) (run_stays problem (map (look_told seen) run.given) more.0 run h o e)
+
+  -- a run that ends by a turn without a row does so whatever it looks at
+  ended_led : (seen : Seen) (old : Run) (o : Outcome) → IsRun problem (map (look_told seen) old.given) old → old.ended ≡ None
+      → ((look : Seen) → Turns problem old look (with_end old o)) → IsRun problem (looks_led (Some o) old.given seen) (with_end old o)
+  ended_led seen old o h going turns =
+      let more = one_more old.given seen o in
+      subst (λ (looks : List Seen). IsRun problem looks (with_end old o)) (sym more.1)
+      (run_turns problem (map (look_told seen) old.given) more.0 old (with_end old o) h going (turns more.0))
+
+  -- ---- the start
 
   -- no look leads to the start
   pub start_reached : (seen : Seen) (book : Book) (goal : Option ℕ) (run : Run) → Starts problem book goal → run ≡ started book goal → IsReached problem seen run
-  start_reached seen book goal run h e = subst (IsReached problem seen) (sym e) (record { is_run = settled seen (started book goal) there; told = tt })
+  start_reached seen book goal run h e = subst (IsReached problem seen) (sym e) (record {
+    is_run = settled seen (started book goal) there;
+    told = tt;
+    grow = λ i j d below within. absurd (omega (arith, within));
+  })
     where
       there : IsRun problem [] (started book goal)
       there = record { book = book; goal = goal; starts = h; goes = refl }
 
+  -- ---- more is seen
+
+  pub grown_reached : (seen other : Seen) (run : Run) → IsFrontOf other seen → IsReached problem seen run → IsReached problem other run
+  grown_reached seen other run front h = record {
+    is_run = subst (λ (looks : List Seen). IsRun problem looks run) (sym (same_led seen other front run.ended run.given h.told)) h.is_run;
+    told = told_stay seen other front run.given h.told;
+    grow = h.grow;
+  }
+
   -- ---- a turn leads on
 
   module _ (seen : Seen) (old new : Run) (h : IsReached problem seen old) (going : old.ended ≡ None) (turn : Turns problem old seen new) where
-    over : IsRun problem (map (look_told seen) old.given ++ seen ∷ []) new
-    over = run_turns problem (map (look_told seen) old.given) seen old new
-        (subst (λ (o : Option Outcome). IsRun problem (looks_led o old.given seen) old) going h.is_run) going turn
+    so_far : IsRun problem (map (look_told seen) old.given) old
+    so_far = subst (λ (o : Option Outcome). IsRun problem (looks_led o old.given seen) old) going h.is_run
 
-    ended_by : (o : Outcome) → new ≡ with_end old o → IsReached problem seen new
-    ended_by o e = subst (IsReached problem seen) (sym e) (record { is_run = subst (IsRun problem (map (look_told seen) old.given ++ seen ∷ [])) e over; told = h.told })
+    over : IsRun problem (map (look_told seen) old.given ++ seen ∷ []) new
+    over = run_turns problem (map (look_told seen) old.given) seen old new so_far going turn
+
+    ended_by : (o : Outcome) → new ≡ with_end old o → ((look : Seen) → Turns problem old look (with_end old o)) → IsReached problem seen new
+    ended_by o e turns = subst (IsReached problem seen) (sym e) (record { is_run = ended_led seen old o so_far going turns; told = h.told; grow = h.grow })
 
     given_one : Infer problem (length old.given + 1) old seen new → IsReached problem seen new
     given_one i = record {
       is_run = settled seen new (subst (λ (looks : List Seen). IsRun problem looks new) (sym looks) over);
       told = subst (AllByRecursion (AreLengthsIn seen)) (sym rows) (all_join (AreLengthsIn seen) old.given (row ∷ []) h.told (all_lengths seen, tt));
+      grow = subst (AllPairs SeesNoFewer) (sym rows) (all_pairs_push SeesNoFewer old.given row h.grow fewer);
     }
       where
         row : GivenRow
-        row = record { turn = length old.given + 1; number = i.given.number; cause = i.cause; name = i.name; truth = i.truth; lengths = map (λ (vs : List ClaimedStructure). length vs) seen }
+        row = record { turn = length old.given + 1; number = i.given.number; cause = i.cause; name = i.name; truth = i.truth; lengths = lengths_of seen }
 
         rows : new.given ≡ old.given ++ row ∷ []
         rows = ap (λ (run : Run). run.given) i.goes_to
@@ -88,10 +109,13 @@ module _ (problem : Stated) where
             ap (map (look_told seen)) rows ∙ map-append (look_told seen) old.given (row ∷ [])
             ∙ ap (λ (look : Seen). map (look_told seen) old.given ++ look ∷ []) (whole_look seen)
 
+        fewer : (k : ℕ) (d : GivenRow) → k < length old.given → SeesNoFewer (get_or old.given k d) row
+        fewer k d less = no_more (get_or old.given k d).lengths seen (at_place (AreLengthsIn seen) old.given h.told k d less)
+
     by_turn : Turns problem old seen new → IsReached problem seen new
-    by_turn (inl k) = ended_by outcome.SosEmpty k.1
-    by_turn (inr (some, inl k)) = ended_by (outcome.GivenLimit (length old.given)) k.1
-    by_turn (inr (some, inr (below, inl k))) = ended_by (outcome.KeptLimit (length old.book.kept)) k.1
+    by_turn (inl k) = ended_by outcome.SosEmpty k.1 (λ look. inl (k.0, refl))
+    by_turn (inr (some, inl k)) = ended_by (outcome.GivenLimit (length old.given)) k.1 (λ look. inr (some, inl (k.0, refl)))
+    by_turn (inr (some, inr (below, inl k))) = ended_by (outcome.KeptLimit (length old.book.kept)) k.1 (λ look. inr (some, inr (below, inl (k.0, refl))))
     by_turn (inr (some, inr (below, inr (fewer, i)))) = given_one i
 
     pub turn_reached : IsReached problem seen new

@@ -1,6 +1,5 @@
 -- The clauses that were usable when the turn began serve as parents, by their numbers.
-use Rattle.std.proofs.Common.{◌≡◌, ◌∙◌, sym, ap, subst, ℕ, ◌+◌, ◌<◌, ◌≤◌, ◌++◌, List, length, get_or, Some, Option, map}
-use Rattle.std.proofs.lemmas.List.{length-append, length-map}
+use Rattle.std.proofs.Common.{◌≡◌, sym, subst, ℕ, ◌+◌, ◌<◌, ◌≤◌, ◌++◌, List, length, get_or, Some, Option}
 use Rattle.std.specs.List.{All, Contains}
 use Rattle.sc_term.specs.declared.Clause.{Clause}
 use Rattle.sc_term.specs.declared.Numbered.{Numbered}
@@ -9,9 +8,7 @@ use Rattle.sc_term.specs.Clause.{IsCanonical, IsWithinLimits}
 use Rattle.sc_input_rules.specs.Problem.{Stated}
 use Rattle.sc_term.specs.Proof.{AreSteps}
 use Rattle.sc_resolve.specs.Kept.{IsKept}
-use Rattle.sc_steps.specs.declared.derivations.derivation.Derived.{Derived}
 use Rattle.sc_steps.specs.declared.derivations.made.Made.{Made}
-use Rattle.sc_steps.specs.Derivation.{all_clauses}
 use Rattle.sc_steps.proofs.LineLaws.{number_within}
 use Rattle.sc_core_rules.specs.Book.{Book, IsSound, numbered_clauses}
 use Rattle.sc_core_rules.specs.Inference.{Inference, derived_of}
@@ -102,7 +99,3 @@ still_usable old new given usable grows are = record {
   kept = are.kept;
   stand = λ k d within. grows (get_or usable k d).number (get_or usable k d).clause (are.stand k d within);
 }
-
--- how many clauses have a number
-pub count_all : (inputs : List Clause) (derived : List Derived) → length (all_clauses inputs derived) ≡ length inputs + length derived
-count_all inputs derived = length-append inputs (map (λ (d : Derived). d.clause) derived) ∙ ap (λ n. length inputs + n) (length-map derived (λ (d : Derived). d.clause))

@@ -1,4 +1,5 @@
-pub mod LeastClause
+pub mod Choice
+pub mod Marking
 pub mod Counts
 pub mod Prover
 pub mod State

@@ -1,14 +1,19 @@
 //! The given clause of a turn, with its row.
 
-ghost use Rattle.std.specs.Prelude.{◌≡◌, ◌<◌, [], All, IfOk, MatchOption, replicate};
+ghost use Rattle.std.specs.Prelude.{◌≡◌, ◌<◌, ◌+◌, ◌^◌, [], true, IfOk, OnOk, MatchOption, length};
 ghost use Rattle.sc_term.specs.Clause.{IsCanonical, IsWithinLimits};
 ghost use Rattle.sc_interp.specs.Marks.{IsMark};
-ghost use Rattle.sc_core.specs.LeastClause.{IsRowOf, IsChosen};
+ghost use Rattle.sc_interp.specs.Versions.{opening};
+ghost use Rattle.sc_core.specs.Choice.{IsRowOf, IsChosen};
+ghost use Rattle.sc_core.specs.Marking.{AreRight};
 
 use crate::selecting::select;
 use sc_core_rules::{Cause, GivenRow};
-use sc_interp::{Assign, Truth, Version, VersionName, truth};
-use sc_term::{Clause, List, Mem, Numbered, copy, width};
+use sc_guide::Guide;
+use sc_interp::{Assign, Truth, Version, truth};
+use sc_keep::Book;
+use sc_mark::Marks;
+use sc_term::{Clause, Mem, Numbered, copy, width};
 use std::alloc::Global;
 
 /// A copy of the given clause of a turn, and its row.
@@ -28,66 +33,57 @@ fn mark(alloc: Global, version: &Version, c: &Clause) -> Mem<Truth>
     Ok(truth(version.tables(), c, &mut register))
 }
 
-/// So many zeros.
-fn zeros(alloc: Global, count: u32) -> Mem<List<u32>>
-    ensures { IfOk result (λ zeros. zeros ≡ replicate count 0) }
-{
-    let values = vec![in alloc; 0u32; count as usize]?;
-    Ok(List::from_vec(values))
-}
-
-/// The clause as the given one of the turn, with its row under the opening version.
+/// Clause n as the given one of the turn, with its row under the guide of what is seen.
 fn with_row(
     alloc: Global,
-    opening: &Version,
-    lists: u32,
+    guide: &Guide,
     turn: u32,
-    p: &Numbered,
+    n: u32,
+    clause: &Clause,
     cause: Cause,
 ) -> Mem<GivenChoice>
-    requires canonical { IsCanonical p.now.clause }
-    requires within { IsWithinLimits p.now.clause }
-    ensures { IfOk result (λ choice. IsRowOf opening.now lists turn p.now cause choice) }
+    requires canonical { IsCanonical clause.now }
+    requires within { IsWithinLimits clause.now }
+    ensures { IfOk result (λ choice. IsRowOf guide.now turn n clause.now cause choice) }
 {
-    let truth = mark(alloc, opening, &p.clause)?;
-    let lengths = zeros(alloc, lists)?;
+    let truth = mark(alloc, guide.version(), clause)?;
+    let lengths = guide.lengths(alloc)?;
     let given = Numbered {
-        number: p.number,
-        clause: copy(alloc, &p.clause)?,
+        number: n,
+        clause: copy(alloc, clause)?,
     };
     let row = GivenRow {
         turn,
-        number: p.number,
+        number: n,
         cause,
-        name: VersionName {
-            finder: 0,
-            place: 0,
-        },
+        name: guide.name(),
         truth,
         lengths,
     };
     Ok(GivenChoice { given, row })
 }
 
-/// The given clause of the turn under the opening version, where none of so many finders has published one (`IsChosen`).
-/// None exactly where sos is empty.
+/// The given clause of the turn under the guide of what is seen, with its row (`IsChosen`). None exactly where sos is
+/// empty. Marks that are right stay right.
 pub fn choose(
     alloc: Global,
-    opening: &Version,
-    lists: u32,
-    ratio: u32,
+    guide: &Guide,
+    marks: &mut Marks,
+    book: &Book,
     turn: u32,
-    sos: &[Numbered],
 ) -> Mem<Option<GivenChoice>>
-    requires ratio { ratio < u32.MAX }
-    requires canonical { All (λ p. IsCanonical p.clause) sos.now }
-    requires within { All (λ p. IsWithinLimits p.clause) sos.now }
-    ensures { IfOk result (λ chosen. MatchOption chosen (sos.now ≡ []) (λ choice. IsChosen opening.now lists ratio turn sos.now choice)) }
+    requires whole { book.now.whole ≡ true }
+    requires few { length book.now.problem.inputs + length book.now.book.derived + 200002 < 2 ^ 32 }
+    requires opens { guide.now.opening_version ≡ opening book.now.problem.symbols }
+    requires right { AreRight book.now.problem guide.now.seen book.now.book marks.old }
+    ensures chosen { IfOk result (λ chosen. MatchOption chosen (book.now.book.sos ≡ []) (λ choice. IsChosen book.now.problem guide.now turn book.now.book.sos choice)) }
+    ensures right { OnOk result (AreRight book.now.problem guide.now.seen book.now.book marks.new) }
 {
-    match select(ratio, turn, sos) {
+    book.keeps();
+    match select(alloc, guide, marks, book, turn)? {
         Some(selected) => {
-            let p = &sos[selected.at];
-            let choice = with_row(alloc, opening, lists, turn, p, selected.cause)?;
+            let n = selected.number;
+            let choice = with_row(alloc, guide, turn, n, book.clause(n), selected.cause)?;
             Ok(Some(choice))
         }
         None => Ok(None),

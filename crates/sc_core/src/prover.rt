@@ -1,13 +1,17 @@
 //! The prover.
 
-ghost use Rattle.std.specs.Prelude.{◌≡◌, ◌≢◌, ◌≤◌, ◌<◌, ℕ, true, false, None, Some, Option as AnOption, IfOk, OnOk, OnErr, IfSome, IfNone, option_map};
+ghost use Rattle.std.specs.Prelude.{◌≡◌, ◌≢◌, ◌≤◌, ◌<◌, ◌^◌, ℕ, true, false, None, Some, Option as AnOption, IfOk, OnOk, OnErr, IfSome, IfNone, IsSomeAnd, option_map, length};
+ghost use Rattle.sc_term.specs.Numbering.{numbered};
 ghost use Rattle.sc_term.specs.Proof.{IsProof};
 ghost use Rattle.sc_term.specs.Refuted.{IsRefuted};
 ghost use Rattle.sc_steps.specs.Splice.{IsSplice};
-ghost use Rattle.sc_interp.specs.Versions as versions;
+ghost use Rattle.sc_interp.specs.Versions.{ClaimedStructure};
+ghost use Rattle.sc_interp.specs.declared.plain.VersionName.{VersionName as AName};
+ghost use Rattle.sc_guide.specs.Guided.{grown};
 ghost use Rattle.sc_input_rules.specs.WellFormed.{IsProblem};
 ghost use Rattle.sc_core_rules.specs.Book.{Book as ABook};
 ghost use Rattle.sc_core_rules.specs.Start.{Starts};
+ghost use Rattle.sc_core_rules.specs.Selection.{IsGuide};
 ghost use Rattle.sc_core_rules.specs.Turn.{Turns};
 ghost use Rattle.sc_core_rules.specs.declared.row.Outcome.TheVariants as outcome;
 ghost use Rattle.sc_core.specs.Counts.{IsCounted};
@@ -18,9 +22,11 @@ use crate::end::TurnEnd;
 use crate::turning::{Running, turn};
 use sc_core_laws::clauses_leave_in_time;
 use sc_core_rules::{GivenRow, KeptRow, Outcome};
+use sc_guide::Guide;
 use sc_input_rules::Problem;
-use sc_interp::Version;
+use sc_interp::{Version, VersionName};
 use sc_keep::Book;
+use sc_mark::Marks;
 use sc_term::{Line, List, Mem};
 use std::alloc::Global;
 use std::marker::Model;
@@ -31,8 +37,8 @@ use std::marker::Model;
 #[derive(Drop)]
 pub struct Prover {
     alloc: Global,
-    opening: Version,
-    lists: u32,
+    guide: Guide,
+    marks: Marks,
     running: Running,
     whole: bool,
 }
@@ -47,9 +53,9 @@ impl Model for Prover {
 
     ghost coded = { Prim.hlevel (codes, term.the_row.coded) };
 
-    ghost view = { λ p. state_of p.running p.lists p.whole };
+    ghost view = { λ p. state_of p.running p.guide p.whole };
 
-    ghost invariant = { λ p. IsProver p.opening p.running p.lists p.whole };
+    ghost invariant = { λ p. IsProver p.guide p.marks p.running p.whole };
 }
 
 /// How the start ends the run, where it has the number of an empty clause.
@@ -83,14 +89,16 @@ impl Prover {
         requires few { lists ≤ 8 }
         ensures { IfOk result (λ prover. (book : ABook) × (goal : AnOption ℕ) × Starts problem.now book goal × (prover ≡ at_start problem.now lists book goal)) }
     {
-        let opening = Version::opening(alloc, problem.sig())?;
+        let symbols = problem.sig();
+        let guide = Guide::new(alloc, symbols, lists)?;
+        let marks = Marks::new(alloc, symbols)?;
         let mut book = Book::new(alloc, problem)?;
         let goal = book.start()?;
         let ended = ended_by(goal);
         Ok(Prover {
             alloc,
-            opening,
-            lists,
+            guide,
+            marks,
             running: Running {
                 book,
                 given: List::new(alloc),
@@ -99,6 +107,19 @@ impl Prover {
             },
             whole: true,
         })
+    }
+
+    /// A copy of the version joins those of that finder, from 1, which are seen from the next turn on. It may come at any
+    /// time, after the end too. Where memory is wanting, nothing changes.
+    pub fn add(&mut self, finder: u32, version: &Version) -> Mem<()>
+        requires some { 1 ≤ finder }
+        requires there { finder ≤ length self.old.seen }
+        requires few { IsSomeAnd (numbered self.old.seen finder) (λ versions. length versions < 2 ^ 31) }
+        ensures added { OnOk result (self.new ≡ record self.old { seen = grown self.old.seen finder version.now }) }
+        ensures refused { OnErr result (self.new ≡ self.old) }
+    {
+        self.guide.add(self.alloc, finder, version)?;
+        Ok(())
     }
 
     /// One turn with the versions that are seen (`Turns`). The prover has to be whole, and the run not ended.
@@ -112,7 +133,7 @@ impl Prover {
         ensures whole { OnOk result (self.new.whole ≡ true) }
         ensures halfway { OnErr result (self.new.whole ≡ false) }
     {
-        match turn(self.alloc, &self.opening, self.lists, &mut self.running) {
+        match turn(self.alloc, &self.guide, &mut self.marks, &mut self.running) {
             Ok(()) => Ok(end_of(self.running.ended)),
             Err(error) => {
                 self.whole = false;
@@ -181,11 +202,28 @@ impl Prover {
         self.running.book.kept()
     }
 
-    /// The guide of the next turn: the opening version, where no version is seen.
-    pub fn guide(&self) -> &Version
-        ensures { result.now ≡ versions.opening self.now.problem.symbols }
+    /// The versions of each finder that are seen, in order.
+    pub fn seen(&self) -> &[List<Version>]
+        ensures { result.now ≡ self.now.seen }
     {
-        &self.opening
+        self.guide.seen()
+    }
+
+    /// The name of the guide of what is seen, under which the next turn chooses: (0, 0) where no version is seen. It is
+    /// that of a guide, and of each.
+    pub fn guide_name(&self) -> VersionName
+        ensures guide { (version : ClaimedStructure) × IsGuide self.now.problem self.now.seen result version }
+        ensures only { (name : AName) (version : ClaimedStructure) → IsGuide self.now.problem self.now.seen name version → name ≡ result }
+    {
+        self.guide.name()
+    }
+
+    /// The guide of what is seen: the opening version, where no version is. It is the guide of every name.
+    pub fn guide(&self) -> &Version
+        ensures guide { (name : AName) × IsGuide self.now.problem self.now.seen name result.now }
+        ensures only { (name : AName) (version : ClaimedStructure) → IsGuide self.now.problem self.now.seen name version → version ≡ result.now }
+    {
+        self.guide.version()
     }
 
     /// The proof of a run that ended with one: the derivations of the empty clause and of all that it needs, put

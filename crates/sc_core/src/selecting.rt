@@ -1,101 +1,160 @@
 //! The choice of the given clause.
 
-ghost use Rattle.std.specs.Prelude.{◌≡◌, ◌<◌, ◌↔◌, ◌^◌, ◌∷◌, [], All, IsTrue, IsSomeAnd, IfSome, IfNone, slice_get, length};
-ghost use Rattle.sc_term.specs.Clause.{IsWithinLimits, weight as spec_weight};
-ghost use Rattle.sc_core_rules.specs.Order.{IsBefore};
-ghost use Rattle.sc_core.specs.LeastClause.{heaviness, IsLesser, IsLeastAt, IsSelected, IsCauseIn};
+ghost use Rattle.std.specs.Prelude.{◌≡◌, ◌≢◌, ◌<◌, ◌↔◌, ◌+◌, ◌^◌, [], ◌∷◌, true, All, AllPairs, IsTrue, IfOk, OnOk, MatchOption, option_map, length, map};
+ghost use Rattle.sc_term.specs.Clause.{IsCanonical, IsWithinLimits};
+ghost use Rattle.sc_interp.specs.Versions.{opening as opening_version};
+ghost use Rattle.sc_core.specs.Choice.{weighed, HasFalse, IsLightestFalse, IsSelected};
+ghost use Rattle.sc_core.specs.Marking.{AreRight, AreMarked, in_guide};
 
 use sc_core_rules::Cause;
-use sc_term::{Numbered, weight};
+use sc_guide::Guide;
+use sc_interp::VersionName;
+use sc_keep::Book;
+use sc_mark::Marks;
+use sc_sos::Sos;
+use sc_term::{Mem, Numbered, weight};
+use std::alloc::Global;
 
-/// A clause by its place in a list, with what it is compared by: its heaviness, and then its number.
+/// The number of a clause of sos, and why it is chosen.
 #[derive(Clone, Copy, Debug)]
-pub struct Candidate {
-    pub at: usize,
-    pub heaviness: u32,
+pub struct Selected {
     pub number: u32,
+    pub cause: Cause,
 }
 
-/// Whether the candidate comes before the other.
-fn is_less(a: Candidate, b: Candidate) -> bool
-    ensures { IsTrue result ↔ IsBefore (a.heaviness ∷ a.number ∷ []) (b.heaviness ∷ b.number ∷ []) }
+/// The clauses by number and weight.
+fn waiting(alloc: Global, sos: &[Numbered]) -> Mem<Sos>
+    requires within { All (λ p. IsWithinLimits p.clause) sos.now }
+    requires apart { AllPairs (λ p q. p.number ≢ q.number) sos.now }
+    requires few { length sos.now < 2 ^ 32 }
+    ensures { IfOk result (λ waiting. waiting.clauses ≡ map weighed sos.now) }
 {
-    a.heaviness < b.heaviness || (a.heaviness == b.heaviness && a.number < b.number)
-}
-
-/// The lesser of the best so far, if any, and the next.
-fn lesser(best: Option<Candidate>, next: Candidate) -> Candidate
-    ensures { IsLesser best next result }
-{
-    match best {
-        Some(b) => { if is_less(next, b) { next } else { b } }
-        None => next,
+    let mut waiting = Sos::new(alloc)?;
+    waiting.reserve(alloc, sos.len() as u32)?;
+    for p in sos {
+        waiting.push(p.number, weight(&p.clause));
     }
+    Ok(waiting)
 }
 
-/// What decides between clauses before their numbers: nothing where one is chosen by age, and otherwise their weight.
-fn heaviness_of(cause: Cause, p: &Numbered) -> u32
-    requires { IsWithinLimits p.now.clause }
-    ensures { result ≡ heaviness cause p.now }
+/// The number that was looked up, if any, chosen for that cause.
+fn chosen(number: Option<u32>, cause: Cause) -> Option<Selected>
+    ensures { result ≡ option_map (λ n. record { number = n; cause = cause }) number }
 {
-    match cause {
-        Cause::Age => 0,
-        Cause::False | Cause::Weight => weight(&p.clause),
-    }
-}
-
-/// The place of the oldest clause, where one is chosen by age, or else of the lightest, ties to the lesser number. Each is
-/// looked at once.
-fn least(cause: Cause, ps: &[Numbered]) -> Option<usize>
-    requires { All (λ p. IsWithinLimits p.clause) ps.now }
-    ensures { IsLeastAt cause ps.now result }
-{
-    let mut best: Option<Candidate> = None;
-    for at in 0..ps.len() {
-        let p = &ps[at];
-        let next = Candidate {
-            at,
-            heaviness: heaviness_of(cause, p),
-            number: p.number,
-        };
-        best = Some(lesser(best, next));
-    }
-    match best {
-        Some(candidate) => Some(candidate.at),
+    match number {
+        Some(number) => Some(Selected { number, cause }),
         None => None,
     }
 }
 
-/// A clause of a list by its place, and why it is chosen.
-#[derive(Clone, Copy, Debug)]
-pub struct Selected {
-    pub at: usize,
-    pub cause: Cause,
+/// Whether the names are one.
+fn is_name(a: VersionName, b: VersionName) -> bool
+    ensures { IsTrue result ↔ (a ≡ b) }
+{
+    a.finder == b.finder && a.place == b.place
 }
 
-/// Why a clause is given in the turn under the opening version: by age where `ratio` + 1 divides it, and otherwise by
-/// weight.
-fn cause_in(ratio: u32, turn: u32) -> Cause
-    requires { ratio < u32.MAX }
-    ensures { IsCauseIn ratio turn result }
+/// Takes the marks to the guide, unless they are of its name.
+fn carry(alloc: Global, guide: &Guide, marks: &mut Marks) -> Mem<()>
+    requires { marks.old.name ≡ guide.now.name → marks.old.version ≡ guide.now.version }
+    ensures { OnOk result (marks.new ≡ in_guide marks.old guide.now) }
 {
-    if turn % (ratio + 1) == 0 {
-        Cause::Age
-    } else {
-        Cause::Weight
+    if is_name(marks.name(), guide.name()) {
+        return Ok(());
+    }
+    marks.carry(alloc, guide.name(), guide.version())?;
+    Ok(())
+}
+
+/// Marks the clause, unless it is marked (`AreMarked`).
+fn mark_one(alloc: Global, marks: &mut Marks, p: &Numbered) -> Mem<()>
+    requires canonical { IsCanonical p.now.clause }
+    requires within { IsWithinLimits p.now.clause }
+    ensures { OnOk result (AreMarked marks.old marks.new (p.now ∷ [])) }
+{
+    match marks.of(p.number) {
+        Some(_) => Ok(()),
+        None => {
+            marks.mark(alloc, p.number, &p.clause)?;
+            Ok(())
+        }
     }
 }
 
-/// The clause of sos that is given in this turn under the opening version (`Selects`): the oldest where `ratio` + 1
-/// divides the turn, and otherwise the lightest, ties to the lesser number. None exactly where sos is empty. Each clause
-/// is looked at once.
-pub fn select(ratio: u32, turn: u32, sos: &[Numbered]) -> Option<Selected>
-    requires ratio { ratio < u32.MAX }
-    requires light { All (λ p. IsWithinLimits p.clause) sos.now }
-    ensures none { IfNone result (sos.now ≡ []) }
-    ensures some { IfSome result (λ chosen. IsSomeAnd (slice_get sos.now chosen.at) (λ p. IsSelected sos.now ratio turn p chosen.cause)) }
+/// Marks the clauses that aren't marked yet (`AreMarked`).
+fn mark_all(alloc: Global, marks: &mut Marks, sos: &[Numbered]) -> Mem<()>
+    requires canonical { All (λ p. IsCanonical p.clause) sos.now }
+    requires within { All (λ p. IsWithinLimits p.clause) sos.now }
+    ensures { OnOk result (AreMarked marks.old marks.new sos.now) }
 {
-    let cause = cause_in(ratio, turn);
-    let at = least(cause, sos)?;
-    Some(Selected { at, cause })
+    for p in sos {
+        mark_one(alloc, marks, p)?;
+    }
+    Ok(())
+}
+
+/// The lightest clause of sos that is false in the guide, ties to the lesser number, after the clauses that aren't
+/// marked in it were. None exactly where none is, or no version is seen: no clause is marked then.
+fn lightest_false(
+    alloc: Global,
+    guide: &Guide,
+    marks: &mut Marks,
+    book: &Book,
+    waiting: &Sos,
+) -> Mem<Option<u32>>
+    requires whole { book.now.whole ≡ true }
+    requires waiting { waiting.now.clauses ≡ map weighed book.now.book.sos }
+    requires opens { guide.now.opening_version ≡ opening_version book.now.problem.symbols }
+    requires right { AreRight book.now.problem guide.now.seen book.now.book marks.old }
+    ensures found { IfOk result (λ found. MatchOption found (¬ HasFalse book.now.book.sos guide.now.name guide.now.version)
+        (λ n. IsLightestFalse book.now.problem book.now.book.sos guide.now.name guide.now.version n)) }
+    ensures right { OnOk result (AreRight book.now.problem guide.now.seen book.now.book marks.new) }
+{
+    book.keeps();
+    let opening = VersionName {
+        finder: 0,
+        place: 0,
+    };
+    if is_name(guide.name(), opening) {
+        return Ok(None);
+    }
+    carry(alloc, guide, marks)?;
+    mark_all(alloc, marks, book.sos().as_slice())?;
+    Ok(waiting.lightest_false(marks))
+}
+
+/// The clause of sos that is given in this turn, by its number (`Selects`): the oldest where `pick_given_ratio` + 1 divides
+/// the turn; otherwise the lightest of those that are false in the guide, where a version is seen; and otherwise the
+/// lightest, ties to the lesser number. None exactly where sos is empty.
+pub fn select(
+    alloc: Global,
+    guide: &Guide,
+    marks: &mut Marks,
+    book: &Book,
+    turn: u32,
+) -> Mem<Option<Selected>>
+    requires whole { book.now.whole ≡ true }
+    requires few { length book.now.problem.inputs + length book.now.book.derived + 200002 < 2 ^ 32 }
+    requires opens { guide.now.opening_version ≡ opening_version book.now.problem.symbols }
+    requires right { AreRight book.now.problem guide.now.seen book.now.book marks.old }
+    ensures selected { IfOk result (λ found. MatchOption found (book.now.book.sos ≡ [])
+        (λ s. IsSelected book.now.problem book.now.book.sos turn guide.now.name guide.now.version s.number s.cause)) }
+    ensures right { OnOk result (AreRight book.now.problem guide.now.seen book.now.book marks.new) }
+{
+    book.keeps();
+    let waiting = waiting(alloc, book.sos().as_slice())?;
+    let ratio = book.params().pick_given_ratio;
+    if turn % (ratio + 1) == 0 {
+        let oldest = chosen(waiting.oldest(), Cause::Age);
+        return Ok(oldest);
+    }
+    match lightest_false(alloc, guide, marks, book, &waiting)? {
+        Some(n) => {
+            let lightest_false = chosen(Some(n), Cause::False);
+            return Ok(lightest_false);
+        }
+        None => {}
+    }
+    let lightest = chosen(waiting.lightest(), Cause::Weight);
+    Ok(lightest)
 }

@@ -1,11 +1,11 @@
 //! One turn of a run.
 
 ghost use Rattle.std.specs.Prelude.{◌≡◌, ◌+◌, ◌<◌, ◌^◌, true, None, IfOk, OnOk, Contains, length};
-ghost use Rattle.sc_interp.specs.Versions as versions;
+ghost use Rattle.sc_interp.specs.Versions.{opening};
 ghost use Rattle.sc_core_rules.specs.Turn as turns;
 ghost use Rattle.sc_core_rules.specs.Turn.{Turns};
 ghost use Rattle.sc_core.specs.Finish.{finish_of};
-ghost use Rattle.sc_core.specs.State.{none_seen};
+ghost use Rattle.sc_core.specs.Marking.{AreRight};
 ghost use Rattle.sc_core.specs.Counts.{IsCounted};
 ghost use Rattle.sc_core.specs.Turning.{run_of, Stops, AreWorked, IsGiven};
 
@@ -14,8 +14,9 @@ use crate::finish::Finish;
 use crate::working::work;
 use sc_core_rules::{GivenRow, Outcome};
 use sc_core_sites::sites;
-use sc_interp::Version;
+use sc_guide::Guide;
 use sc_keep::Book;
+use sc_mark::Marks;
 use sc_term::{List, MAX_WORK, Mem, Numbered};
 use std::alloc::Global;
 
@@ -85,7 +86,7 @@ fn work_all(alloc: Global, book: &mut Book, given: &Numbered, turn: u32) -> Mem<
     Ok(finish)
 }
 
-/// Gives the chosen clause: its row is written, it moves to usable, and all its sites are worked (`AreParts`).
+/// Gives the chosen clause: its row is written, it moves to usable, and all its sites are worked (`IsGiven`).
 fn give(alloc: Global, running: &mut Running, choice: GivenChoice, turn: u32) -> Mem<()>
     requires whole { running.old.book.whole ≡ true }
     requires listed { Contains running.old.book.book.sos choice.given }
@@ -103,14 +104,16 @@ fn give(alloc: Global, running: &mut Running, choice: GivenChoice, turn: u32) ->
     Ok(())
 }
 
-/// One turn of a run that hasn't ended, where none of so many finders has published a version (`Turns`). After want of
-/// memory the run is of no use.
-pub fn turn(alloc: Global, opening: &Version, lists: u32, running: &mut Running) -> Mem<()>
+/// One turn of a run that hasn't ended, with the versions that are seen (`Turns`). Marks that are right are right still.
+/// After want of memory the run is of no use.
+pub fn turn(alloc: Global, guide: &Guide, marks: &mut Marks, running: &mut Running) -> Mem<()>
     requires whole { running.old.book.whole ≡ true }
     requires going { running.old.ended ≡ None }
-    requires opening { opening.now ≡ versions.opening running.old.book.problem.symbols }
     requires counted { IsCounted running.old.book.problem (run_of running.old) }
-    ensures turns { OnOk result (Turns running.old.book.problem (run_of running.old) (none_seen lists) (run_of running.new)) }
+    requires opens { guide.now.opening_version ≡ opening running.old.book.problem.symbols }
+    requires right { AreRight running.old.book.problem guide.now.seen running.old.book.book marks.old }
+    ensures turns { OnOk result (Turns running.old.book.problem (run_of running.old) guide.now.seen (run_of running.new)) }
+    ensures right { OnOk result (AreRight running.old.book.problem guide.now.seen running.new.book.book marks.new) }
     ensures problem { running.new.book.problem ≡ running.old.book.problem }
     ensures whole { OnOk result (running.new.book.whole ≡ true) }
 {
@@ -123,11 +126,11 @@ pub fn turn(alloc: Global, opening: &Version, lists: u32, running: &mut Running)
         None => {}
     }
     let turn = running.given.len() as u32 + 1;
-    let ratio = running.book.params().pick_given_ratio;
-    let sos = running.book.sos().as_slice();
-    match choose(alloc, opening, lists, ratio, turn, sos)? {
+    match choose(alloc, guide, marks, &running.book, turn)? {
         Some(choice) => {
+            let n = choice.given.number;
             give(alloc, running, choice, turn)?;
+            marks.forget(n);
             Ok(())
         }
         // Sos isn't empty.

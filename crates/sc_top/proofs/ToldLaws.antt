@@ -1,6 +1,6 @@
 -- The answer that was written is one to the bytes, and the one that they decide where they decide one.
-use Rattle.std.proofs.Common.{◌≡◌, ◌∙◌, sym, ap, subst, ℕ, List, [], ◌∷◌, length, ◌≤◌, Option, Some, None, inl, inr, ◌⊎◌, arith}
-use Rattle.std.specs.Prelude.{◌≢◌, ⊤, IfSome, String, string_bytes}
+use Rattle.std.proofs.Common.{◌≡◌, ◌∙◌, sym, subst, ℕ, List, length, ◌≤◌, Option, Some, None, inl, inr, ◌⊎◌, arith}
+use Rattle.std.specs.Prelude.{◌≢◌, IfSome, String}
 use Rattle.std.specs.declared.alloc.Global.{Global}
 use Rattle.sc_core_rules.specs.declared.row.Outcome.{Outcome}
 use Rattle.sc_core_rules.specs.declared.row.Outcome.TheVariants as outcome
@@ -36,9 +36,9 @@ stands_for words command told before now ReadFault asked h = h
 stands_for words command told before now OutOfMemory asked h = tt
 
 -- the bytes decide one answer
-one_by : (command : Command) (bytes : List ℕ) (a b : Answer) → IsDecisive command → IsAnswerBy command bytes a → IsAnswerBy command bytes b → a ≡ b
+one_by : (command : Command) (bytes : List ℕ) (a b : Answer) → IsDecisive command bytes → IsAnswerBy command bytes a → IsAnswerBy command bytes b → a ≡ b
 one_by command.Check bytes a b d h k = one_answer bytes a b h k
-one_by command.Prove bytes a b d h k = one_prove_answer bytes a b h k
+one_by (command.Prove plan) bytes a b d h k = one_prove_answer plan bytes a b d h k
 one_by (command.Model size nodes) bytes a b d h k = absurd d
 
 -- ---- what was written
@@ -75,16 +75,15 @@ module _ (command : Command) (room : ℕ) (old new : Option (List ℕ)) (status 
   told_by before now bytes OutOfMemory h w = inr (inr w.is)
 
   -- where the bytes decide an answer, the one that was written is it
-  module _ (decisive : IsDecisive command) where
-    same : (bytes : List ℕ) → IsToldOf command room old new status bytes ⊎ (status ≡ 5) ⊎ (status ≡ 7) → IsDecided command room old new status bytes
-    same bytes (inl (b, h, w)) a k = inl (subst (IsWritten room old new status) (one_by command bytes b a decisive h k) w)
-    same bytes (inr other) a k = inr other
+  same : (bytes : List ℕ) → IsToldOf command room old new status bytes ⊎ (status ≡ 5) ⊎ (status ≡ 7) → IsDecided command room old new status bytes
+  same bytes (inl (b, h, w)) decisive a k = inl (subst (IsWritten room old new status) (one_by command bytes b a decisive h k) w)
+  same bytes (inr other) decisive a k = inr other
 
-    pub decided : (told : Option (List ℕ)) (before now : ℕ) (b : Answer) → StandsBy command told before now b
-        → TellsOf (IsWritten room old new status) b → IfSome told (IsDecided command room old new status)
-    decided None before now b h w = tt
-    decided (Some bytes) before now b h (inl w) = same bytes (told_by before now bytes b h w)
-    decided (Some bytes) before now b h (inr w) = λ a k. inr (inr w.is)
+  pub decided : (told : Option (List ℕ)) (before now : ℕ) (b : Answer) → StandsBy command told before now b
+      → TellsOf (IsWritten room old new status) b → IfSome told (IsDecided command room old new status)
+  decided None before now b h w = tt
+  decided (Some bytes) before now b h (inl w) = same bytes (told_by before now bytes b h w)
+  decided (Some bytes) before now b h (inr w) = λ decisive a k. inr (inr w.is)
 
   only : (bytes : List ℕ) → status ≢ 5 → status ≢ 7 → IsToldOf command room old new status bytes ⊎ (status ≡ 5) ⊎ (status ≡ 7) → IsToldOf command room old new status bytes
   only bytes five seven (inl h) = h

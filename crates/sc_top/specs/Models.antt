@@ -1,5 +1,5 @@
 -- The answer to bytes of whose clauses a model is sought.
-use Rattle.std.specs.Prelude.{◌≡◌, ◌<◌, ◌≤◌, ℕ, List, Option, Some, None, Ok, Err, min, ⊤}
+use Rattle.std.specs.Prelude.{◌≡◌, ◌<◌, ◌≤◌, ℕ, List, Option, None, Ok, Err, min, ⊤}
 use Rattle.sc_input_rules.specs.Problem.{Stated}
 use Rattle.sc_interp.specs.Structure.{Structure, IsStructure}
 use Rattle.sc_text_run_rules.specs.ModelText.{model_text}

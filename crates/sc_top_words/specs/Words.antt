@@ -16,15 +16,21 @@ AreWords texts words = AllZip (λ word text. string_bytes word ≡ text) words t
 abbrev pub IsCheck : List (String Global) → Type 0
 IsCheck words = AreWords (codes "check" ∷ []) words
 
+-- the words that ask for a proof, with models of the input clauses beside it
+abbrev pub IsProve : List (String Global) → Type 0
+IsProve words = AreWords (codes "prove" ∷ codes "--finders" ∷ codes "0" ∷ []) words
+
+-- the words that ask for a proof, without models
+abbrev pub IsProveWithoutModels : List (String Global) → Type 0
+IsProveWithoutModels words = AreWords (codes "prove" ∷ codes "--finders" ∷ codes "0" ∷ codes "--candidates" ∷ codes "0" ∷ []) words
+
 -- no finder beside the prover, models of size 2 from a budget of 100,000 nodes, of so many input clauses at most
 abbrev pub plan_with : ℕ → Plan
 plan_with candidates = record { finders = 0; first_size = 2; nodes = 100000; candidates = candidates }
 
--- a proof is sought without a finder beside the prover, with 128 candidates for a model or with none
+-- a proof is sought by the plan: without a finder beside the prover, with 128 candidates for a model or with none
 abbrev pub AskForProof : List (String Global) → Plan → Type 0
-AskForProof words plan =
-    (AreWords (codes "prove" ∷ codes "--finders" ∷ codes "0" ∷ []) words × (plan ≡ plan_with 128))
-    ⊎ (AreWords (codes "prove" ∷ codes "--finders" ∷ codes "0" ∷ codes "--candidates" ∷ codes "0" ∷ []) words × (plan ≡ plan_with 0))
+AskForProof words plan = (IsProve words × (plan ≡ plan_with 128)) ⊎ (IsProveWithoutModels words × (plan ≡ plan_with 0))
 
 -- ---- options
 
@@ -71,8 +77,12 @@ Asks words Check = IsCheck words
 Asks words (Prove plan) = AskForProof words plan
 Asks words (Model size nodes) = AskForModel words size nodes
 
+-- the plan's numbers are in their ranges, and no finder is to run beside the prover
+abbrev pub IsPlanAlone : Plan → Type 0
+IsPlanAlone plan = IsPlan plan × (plan.finders ≡ 0)
+
 -- the numbers that are asked for are in their ranges, and no finder is to run beside the prover
 abbrev pub IsInRange : Command → Type 0
 IsInRange Check = ⊤
-IsInRange (Prove plan) = IsPlan plan × (plan.finders ≡ 0)
+IsInRange (Prove plan) = IsPlanAlone plan
 IsInRange (Model size nodes) = (1 ≤ size) × (size ≤ 8)

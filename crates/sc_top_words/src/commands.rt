@@ -1,18 +1,20 @@
 //! The words of the command line.
 
 ghost use Rattle.std.specs.Prelude.{◌≡◌, ◌↔◌, ◌<◌, ◌≤◌, ℕ, IfSome, IsTrue, MatchOption, string_bytes};
+ghost use Rattle.sc_worker.specs.declared.plan.Plan.{Plan as APlan};
 ghost use Rattle.sc_top_words.specs.declared.commands.Command.{Command as ACommand};
-ghost use Rattle.sc_top_words.specs.Words.{IsCheck, IsProve, AskForModel, IsValue, IsSize, IsBudget, AskForBudget, AskForSize, Asks, IsInRange};
+ghost use Rattle.sc_top_words.specs.Words.{IsCheck, IsProve, IsProveWithoutModels, plan_with, AskForProof, IsPlanAlone, AskForModel, IsValue, IsSize, IsBudget, AskForBudget, AskForSize, Asks, IsInRange};
 
 use sc_input_scan::numeral_value;
+use sc_worker::Plan;
 
 /// What the words ask for.
 #[derive(Clone, Copy, Debug, PartialEq, Eq)]
 pub enum Command {
     /// A proof is checked.
     Check,
-    /// A proof is sought, without a model finder.
-    Prove,
+    /// A proof is sought, and models beside it by this plan.
+    Prove(Plan),
     /// A model of this size is sought, with this budget of nodes for each piece.
     Model { size: u8, nodes: u64 },
 }
@@ -29,6 +31,9 @@ const BUDGETS: Range = Range {
 };
 
 const DEFAULT_BUDGET: u64 = 100_000;
+
+/// Of so many input clauses at most a model is sought beside a proof, where nothing is asked for.
+const DEFAULT_CANDIDATES: u32 = 128;
 
 /// The numbers that an option takes.
 #[derive(Clone, Copy)]
@@ -88,6 +93,17 @@ fn is_prove(words: &[String]) -> bool
     ensures { IsTrue result ↔ IsProve words.now }
 {
     match words {
+        [prove, finders, no_finder] => is_word(prove, "prove")
+            && is_word(finders, "--finders")
+            && is_word(no_finder, "0"),
+        _ => false,
+    }
+}
+
+fn is_prove_without_models(words: &[String]) -> bool
+    ensures { IsTrue result ↔ IsProveWithoutModels words.now }
+{
+    match words {
         [prove, finders, no_finder, candidates, no_candidate] => is_word(prove, "prove")
             && is_word(finders, "--finders")
             && is_word(no_finder, "0")
@@ -95,6 +111,32 @@ fn is_prove(words: &[String]) -> bool
             && is_word(no_candidate, "0"),
         _ => false,
     }
+}
+
+/// The plan without a finder beside the prover, with so many candidates for a model.
+fn plan_with(candidates: u32) -> Plan
+    ensures { result ≡ plan_with candidates }
+{
+    Plan {
+        finders: 0,
+        first_size: DEFAULT_SIZE,
+        nodes: DEFAULT_BUDGET,
+        candidates,
+    }
+}
+
+/// The plan by which a proof is sought, where the words ask for one.
+fn read_prove(words: &[String]) -> Option<Plan>
+    ensures asked { MatchOption result ((plan : APlan) → ¬ AskForProof words.now plan) (AskForProof words.now) }
+    ensures in_range { IfSome result IsPlanAlone }
+{
+    if is_prove(words) {
+        return Some(plan_with(DEFAULT_CANDIDATES));
+    }
+    if is_prove_without_models(words) {
+        return Some(plan_with(0));
+    }
+    None
 }
 
 /// The budget that the words behind the size ask for.
@@ -164,8 +206,8 @@ pub fn read_words(words: &[String]) -> Option<Command>
     if is_check(words) {
         return Some(Command::Check);
     }
-    if is_prove(words) {
-        return Some(Command::Prove);
+    match read_prove(words) {
+        Some(plan) => Some(Command::Prove(plan)),
+        None => read_model(words),
     }
-    read_model(words)
 }

@@ -1,5 +1,9 @@
-pub mod RunLaws
-pub mod StartLaws
+pub mod LookLaws
+pub mod AnswerLaws
+pub mod TurnedLaws
+pub mod StepLaws
+pub mod InlineLaws
+pub mod EndLaws
 pub mod MarkLaws
 pub mod RecordLaws
 pub mod OneGuide

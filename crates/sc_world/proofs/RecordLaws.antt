@@ -1,14 +1,15 @@
 -- The record of a run that has ended.
-use Rattle.std.proofs.Common.{◌≡◌, ◌∙◌, sym, ap, subst, ℕ, List, [], ◌∷◌, ◌++◌, map, Some, None, inl, inr}
-use Rattle.std.specs.Prelude.{◌≢◌}
+use Rattle.std.proofs.Common.{◌≡◌, ◌∙◌, sym, ap, subst, refl, ℕ, List, [], ◌∷◌, length, map, Option, Some, inl, true}
 use Rattle.std.specs.List.{AllZip, AllByRecursion}
+use Rattle.std.proofs.lemmas.List.Elements.{recursion_from_All}
 use Rattle.sc_term.specs.declared.Line.{Line}
 use Rattle.sc_term.specs.Proof.{IsProof}
 use Rattle.sc_term.specs.Refuted.{IsRefuted}
 use Rattle.sc_steps.specs.Splice.{IsSplice}
 use Rattle.sc_input_rules.specs.Problem.{Stated}
-use Rattle.sc_interp.specs.Versions.{ClaimedStructure, opening}
 use Rattle.sc_input_rules.specs.WellFormed.{IsProblem}
+use Rattle.sc_interp.specs.declared.plain.VersionName.{VersionName}
+use Rattle.sc_interp.specs.Versions.{ClaimedStructure}
 use Rattle.sc_core_laws.specs.TrueRows.{IsTrueRow}
 use Rattle.sc_core_laws.proofs.InTime.{leaves_in_time}
 use Rattle.sc_core_laws.proofs.RowsTrue.{rows_are_true}
@@ -16,95 +17,112 @@ use Rattle.sc_core_rules.specs.declared.row.GivenRow.{GivenRow}
 use Rattle.sc_core_rules.specs.declared.row.KeptRow.{KeptRow}
 use Rattle.sc_core_rules.specs.declared.row.Outcome.{Outcome}
 use Rattle.sc_core_rules.specs.declared.row.Outcome.TheVariants as outcome
-use Rattle.sc_core_rules.specs.Selection.{Seen, opening_name, ratio}
+use Rattle.sc_core_rules.specs.Selection.{Seen, IsGuide, ratio}
 use Rattle.sc_core_rules.specs.Turn.{Run}
 use Rattle.sc_core_rules.specs.Run.{IsRun, Grow, looks_of}
-use Rattle.sc_text_run_rules.specs.declared.run.FinderEnd.TheVariants.{Done}
+use Rattle.sc_text_run_rules.specs.declared.run.FinderEnd.{FinderEnd}
 use Rattle.sc_text_run_rules.specs.declared.run.MarkRow.{MarkRow}
-use Rattle.sc_text_run_rules.specs.declared.run.VersionText.{VersionText}
 use Rattle.sc_text_run_rules.specs.declared.run.RunText.{RunText}
-use Rattle.sc_text_run_rules.specs.RunValue.{RunValue, version_value, run_value}
-use Rattle.sc_world.specs.Recorded.{IsTold, AreMarks, TellsEnd, LeaveInTime, Tells, no_version, IsRecord}
-use Rattle.sc_world.specs.Underway.{looks_at_none, IsUnderway}
-use Rattle.sc_world.proofs.RunLaws.{TellsOne, AreNone, looks_are_none, opening_guides, none_each, none_grow, none_fronts}
+use Rattle.sc_text_run_rules.specs.RunValue.{VersionValue, RunValue, version_value, run_value}
+use Rattle.sc_core.specs.State.{ProverState, looks_led, IsReached}
+use Rattle.sc_worker.specs.declared.plan.Plan.{Plan}
+use Rattle.sc_worker.specs.FinderList.{versions_of}
+use Rattle.sc_worker.specs.Choosing.{Choice, at_first}
+use Rattle.sc_worker.specs.Plans.{size_of_finder}
+use Rattle.sc_worker.proofs.FinderLaws.{IsPublished, finder_publishes}
+use Rattle.sc_world.specs.Printed.{printed, all_printed}
+use Rattle.sc_world.specs.Recorded.{IsTold, AreMarks, TellsEnd, LeaveInTime, Tells, IsRecord}
+use Rattle.sc_world.specs.Steps.{IsEnd}
+use Rattle.sc_world.specs.Underway.{IsUnderway}
+use Rattle.sc_world.proofs.LookLaws.{lengths_each, looks_front, looks_grow}
+use Rattle.sc_world.proofs.InlineLaws.{is_inline}
 
-module _ (problem : Stated) (run : Run) (o : Outcome) (ended : run.ended ≡ Some o) (h : IsUnderway problem run) where
-  has_ended : run.ended ≢ None
-  has_ended none = let bad : Some o ≡ None = sym ended ∙ none in cc
+-- ---- versions
 
-  looks : looks_of run.given no_version ≡ looks_at_none run.given ++ no_version ∷ []
-  looks = looks_are_none run.given h.lengths
+module _ (problem : Stated) (size : ℕ) where
+  told_list : (versions : List ClaimedStructure) → AllByRecursion (IsPublished problem size) versions → AllZip (IsTold problem) (map printed versions) versions
+  told_list [] h = tt
+  told_list (v ∷ versions) h = (
+    record { version = (h.0).version; over = (h.0).over; size = refl; entries = refl; numbers = refl; clauses = (h.0).inputs },
+    told_list versions h.1,
+  )
 
-  over_all : IsRun problem (looks_of run.given no_version) run
-  over_all = subst (λ (l : List Seen). IsRun problem l run) (sym looks) (h.over has_ended)
+  told_lists : (lists : Seen) → AllByRecursion (AllByRecursion (IsPublished problem size)) lists → AllZip (AllZip (IsTold problem)) (all_printed lists) lists
+  told_lists [] h = tt
+  told_lists (versions ∷ lists) h = (told_list versions h.0, told_lists lists h.1)
 
-  -- ---- its proof
+-- ---- the proof
 
-  pub tells_proof : (goal : ℕ) (lines : List Line) (rows : List MarkRow) → o ≡ outcome.Proof → run.goal ≡ Some goal
-      → IsSplice problem.inputs run.book.derived goal lines → IsProof problem.inputs lines → IsRefuted problem.inputs
-      → AreMarks opening_name (opening problem.symbols) lines rows → TellsEnd problem no_version run o lines rows
-  tells_proof goal lines rows is found splice proof refuted marks = inl (
+module _ (problem : Stated) (versions : Seen) (run : Run) (o : Outcome) where
+  -- the marks are in the guide, of lines that are these
+  pub tells_marked : (lines : List Line) (rows : List MarkRow) → o ≡ outcome.Proof → (goal : ℕ) × (run.goal ≡ Some goal) × IsSplice problem.inputs run.book.derived goal lines
+      → IsProof problem.inputs lines → IsRefuted problem.inputs → (marked : List Line) → marked ≡ lines
+      → (name : VersionName) × (v : ClaimedStructure) × IsGuide problem versions name v × AreMarks name v marked rows → TellsEnd problem versions run o lines rows
+  tells_marked lines rows is found proof refuted marked same marks = inl (
     is,
     record {
-      goal = goal;
-      found = found;
-      splice = splice;
+      goal = found.0;
+      found = found.1;
+      splice = found.2;
       proof = proof;
       refuted = refuted;
-      name = opening_name;
-      guide = opening problem.symbols;
-      guides = opening_guides problem;
-      marks = marks;
+      name = marks.0;
+      guide = marks.1;
+      guides = marks.2;
+      marks = subst (λ (ls : List Line). AreMarks marks.0 marks.1 ls rows) same marks.3;
     },
   )
 
-  -- the same, where the marks are in a version that is the opening one, of lines that are these
-  pub tells_marked : (lines : List Line) (rows : List MarkRow) → o ≡ outcome.Proof → (goal : ℕ) × (run.goal ≡ Some goal) × IsSplice problem.inputs run.book.derived goal lines
-      → IsProof problem.inputs lines → IsRefuted problem.inputs → (v : ClaimedStructure) (marked : List Line) → v ≡ opening problem.symbols → marked ≡ lines → AreMarks opening_name v marked rows
-      → TellsEnd problem no_version run o lines rows
-  tells_marked lines rows is found proof refuted v marked opens same marks =
-      tells_proof found.0 lines rows is found.1 found.2 proof refuted
-      (subst (λ (ls : List Line). AreMarks opening_name (opening problem.symbols) ls rows) same (subst (λ (w : ClaimedStructure). AreMarks opening_name w marked rows) opens marks))
+-- ---- all of it
 
-  pub tells_none : (lines : List Line) (rows : List MarkRow) → o ≢ outcome.Proof → lines ≡ [] → rows ≡ [] → TellsEnd problem no_version run o lines rows
-  tells_none lines rows other no_line no_row = inr (other, record { no_line = no_line; no_mark = no_row })
+module _ (problem : Stated) (versions : Seen) (run : Run) (o : Outcome) (ended : run.ended ≡ Some o) (such : IsProblem problem) (reached : IsReached problem versions run) where
+  over_all : IsRun problem (looks_of run.given versions) run
+  over_all = subst (λ (e : Option Outcome). IsRun problem (looks_led e run.given versions) run) ended reached.is_run
 
-  -- ---- all of it
+  in_time : LeaveInTime problem versions run.given run.book.kept
+  in_time n t put turn = leaves_in_time problem (looks_of run.given versions) run n t over_all put turn
 
-  all_none : AreNone (looks_of run.given no_version)
-  all_none = subst AreNone (sym looks) (none_each run.given)
+  pub is_told : (size : ℕ) → AllByRecursion (AllByRecursion (IsPublished problem size)) versions → (text : RunValue) → text.lists ≡ all_printed versions → text.ratio ≡ ratio problem
+      → text.given ≡ run.given → text.kept ≡ run.book.kept → text.outcome ≡ o → TellsEnd problem versions run o text.proof text.marks → Tells problem versions text
+  is_told size published text lists ratio given kept outcome proof = record {
+    run = run;
+    is_run = subst (λ (rows : List GivenRow). IsRun problem (looks_of rows versions) run) (sym given) over_all;
+    grow = subst (λ (rows : List GivenRow). Grow (looks_of rows versions)) (sym given) (looks_grow versions run.given reached.grow);
+    lists = subst (λ (l : List (List VersionValue)). AllZip (AllZip (IsTold problem)) l versions) (sym lists) (told_lists problem size versions published);
+    ratio = ratio;
+    given = given;
+    true_rows = subst (AllByRecursion (IsTrueRow problem versions run.book)) (sym given)
+        (rows_are_true problem versions (looks_of run.given versions) run such (looks_front versions run.given reached.told) over_all);
+    lengths = subst (AllByRecursion (λ (row : GivenRow). length row.lengths ≡ length versions)) (sym given) (lengths_each versions run.given reached.told);
+    kept = kept;
+    outcome = ended ∙ ap Some (sym outcome);
+    proof = subst (λ (p : Outcome). TellsEnd problem versions run p text.proof text.marks) (sym outcome) proof;
+    in_time = subst (λ (rows : List GivenRow). LeaveInTime problem versions rows text.kept) (sym given)
+        (subst (λ (rows : List KeptRow). LeaveInTime problem versions run.given rows) (sym kept) in_time);
+  }
 
-  in_time : LeaveInTime problem no_version run.given run.book.kept
-  in_time n t put turn = leaves_in_time problem (looks_of run.given no_version) run n t over_all put turn
+-- the record of a run under way that has ended, by its parts
+pub is_record : (problem : Stated) (plan : Plan) (prover : ProverState) (choice : Choice) → IsUnderway (at_first problem plan 1) prover choice
+    → IsProblem prover.problem → (prover.whole ≡ true → IsReached prover.problem prover.seen prover.run) → (o : Outcome) → prover.run.ended ≡ Some o
+    → (text : RunText) (lines : List Line) (rows : List MarkRow) → TellsEnd prover.problem prover.seen prover.run o lines rows
+    → text.ratio ≡ ratio problem → map (map version_value) text.lists ≡ all_printed prover.seen → text.given ≡ prover.run.given → text.kept ≡ prover.run.book.kept
+    → ((end : FinderEnd) × IsEnd choice end × (text.ends ≡ end ∷ [])) → text.outcome ≡ o → text.proof ≡ lines → text.marks ≡ rows
+    → IsRecord problem plan prover.seen (run_value text)
+is_record problem plan prover choice h such reached o ended text lines rows told ratio_is lists given kept ends outcome proof marks = record {
+  list = versions_of h.answers;
+  one = h.sees;
+  tells = is_told problem prover.seen prover.run o ended well_formed
+      (subst (λ (p : Stated). IsReached p prover.seen prover.run) h.same (reached h.whole))
+      (size_of_finder plan 1) (subst (AllByRecursion (AllByRecursion (IsPublished problem (size_of_finder plan 1)))) (sym h.sees) (published, tt))
+      (run_value text) lists ratio_is given kept outcome
+      (subst (λ (p : Stated). TellsEnd p prover.seen prover.run o text.proof text.marks) h.same
+      (subst (λ (l : List Line). TellsEnd prover.problem prover.seen prover.run o l text.marks) (sym proof)
+      (subst (λ (m : List MarkRow). TellsEnd prover.problem prover.seen prover.run o lines m) (sym marks) told)));
+  inline = is_inline problem plan prover choice h o ended (run_value text) given outcome ends;
+}
+  where
+    well_formed : IsProblem problem
+    well_formed = subst IsProblem h.same such
 
-  pub is_record : IsProblem problem → (text : RunValue) → text.lists ≡ [] ∷ [] → text.ratio ≡ ratio problem → text.given ≡ run.given → text.kept ≡ run.book.kept
-      → text.ends ≡ Done ∷ [] → text.outcome ≡ o → TellsEnd problem no_version run o text.proof text.marks → IsRecord problem text
-  is_record such text lists ratio given kept ends outcome proof = record { tells = told; ends = ends }
-    where
-      told : Tells problem no_version text
-      told = record {
-        run = run;
-        is_run = subst (λ (rows : List GivenRow). IsRun problem (looks_of rows no_version) run) (sym given) over_all;
-        lists = subst (λ l. AllZip (AllZip (IsTold problem)) l no_version) (sym lists) (tt, tt);
-        ratio = ratio;
-        given = given;
-        grow = subst (λ (rows : List GivenRow). Grow (looks_of rows no_version)) (sym given) (none_grow (looks_of run.given no_version) all_none);
-        true_rows = subst (AllByRecursion (IsTrueRow problem no_version run.book)) (sym given)
-            (rows_are_true problem no_version (looks_of run.given no_version) run such (none_fronts (looks_of run.given no_version) all_none) over_all);
-        lengths = subst (AllByRecursion TellsOne) (sym given) h.lengths;
-        kept = kept;
-        outcome = ended ∙ ap Some (sym outcome);
-        proof = subst (λ (o : Outcome). TellsEnd problem no_version run o text.proof text.marks) (sym outcome) proof;
-        in_time = subst (λ (rows : List GivenRow). LeaveInTime problem no_version rows text.kept) (sym given)
-            (subst (λ (rows : List KeptRow). LeaveInTime problem no_version run.given rows) (sym kept) in_time);
-      }
-
--- the same, of the problem and the text as they are at hand
-pub is_record_of : (problem stated : Stated) → problem ≡ stated → IsProblem problem → (run : Run) (o : Outcome) → run.ended ≡ Some o → IsUnderway problem run → (text : RunText) (lines : List Line) (rows : List MarkRow)
-    → TellsEnd problem no_version run o lines rows → text.ratio ≡ ratio stated → text.lists ≡ [] ∷ [] → text.given ≡ run.given → text.kept ≡ run.book.kept
-    → text.ends ≡ Done ∷ [] → text.outcome ≡ o → text.proof ≡ lines → text.marks ≡ rows → IsRecord stated (run_value text)
-is_record_of problem stated same such run o ended h text lines rows told ratio_is lists given kept ends outcome proof marks =
-    subst (λ (p : Stated). IsRecord p (run_value text)) same
-    (is_record problem run o ended h such (run_value text) (ap (λ (l : List (List VersionText)). map (map version_value) l) lists) (ratio_is ∙ ap ratio (sym same)) given kept ends outcome
-    (subst (λ (l : List Line). TellsEnd problem no_version run o l text.marks) (sym proof)
-    (subst (λ (m : List MarkRow). TellsEnd problem no_version run o lines m) (sym marks) told)))
+    published : AllByRecursion (IsPublished problem (size_of_finder plan 1)) (versions_of h.answers)
+    published = recursion_from_All (IsPublished problem (size_of_finder plan 1)) (versions_of h.answers) (finder_publishes problem plan 1 h.worked h.answers well_formed h.finds)

@@ -1,3 +1,5 @@
 pub mod Recorded
 pub mod Underway
 pub mod OneText
+pub mod Steps
+pub mod Printed

@@ -1,5 +1,5 @@
 -- When the text of a run tells a run of the given-clause machine.
-use Rattle.std.specs.Prelude.{◌≡◌, ◌⊎◌, ℕ, ◌-◌, List, [], ◌∷◌, ◌++◌, All, Option, Some, length, map, min, take}
+use Rattle.std.specs.Prelude.{◌≡◌, ◌⊎◌, ℕ, ◌-◌, List, [], ◌∷◌, All, Option, Some, length, map, min, take}
 use Rattle.std.specs.List.{AllZip, AllByRecursion}
 use Rattle.sc_term.specs.declared.Line.{Line}
 use Rattle.sc_term.specs.Numbering.{numbered}

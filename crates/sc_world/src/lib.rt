@@ -1,21 +1,34 @@
 //! Whole runs of the prover, and their records.
 //!
-//! `prove_alone` makes the run of a problem without candidates for a model: the prover (`sc_core`) turns until the run has
-//! ended, which is at the latest when as many clauses were given as may be, and the rows of the run become a value that
-//! `print_run` writes. `specs/Recorded` says when such a value tells a run of the given-clause machine (`Tells`) and when
-//! it is the record of a problem's run (`IsRecord`): the rows are those of the one run over looks at no version; where
-//! that ended with a proof, the lines are put together for the empty clause, they are a proof and refute the input
-//! clauses, and the marks are those of the lines in the guide, here the opening version; and every clause leaves the set
-//! of support in time.
+//! `prove_alone` makes the run of a problem with one model finder that works between the turns: the prover (`sc_core`)
+//! turns until the run has ended, which is at the latest when as many clauses were given as may be; after each turn after
+//! which the run went on, the finder (`sc_worker`) works its next candidate, if it has one and isn't too wide, and a
+//! version that it publishes is seen from the next turn on. The rows of the run become a value that `print_run` writes.
+//! `specs/Recorded` says when such a value tells a run of the given-clause machine (`Tells`), and when it is the record of a
+//! problem's run with such a finder (`IsRecord`): the rows are those of a run over the looks that they tell; the printed
+//! list is the finder's over as many candidates as were worked; where the run ended with a proof, the lines are put
+//! together for the empty clause, they are a proof and refute the input clauses, and the marks are those of the lines in
+//! the guide at the end; and every clause leaves the set of support in time.
 //!
-//! It stands on the prover, on the marks of any clause (`sc_interp`), on the law of `sc_core_laws`, and on the value of a
-//! run (`sc_text_run_rules`). Callers may rest on the record alone: a problem has one (`proofs/OneRecord`). Want of memory is
-//! the one other answer; a proof of 2^32 lines or more counts as that.
+//! It stands on the prover, on the chooser of candidates, on the marks of any clause (`sc_interp`), on the laws of
+//! `sc_core_laws`, and on the value of a run (`sc_text_run_rules`). `specs/Underway` says what is kept from turn to turn.
+//! Callers may rest on the record alone: where no search for a model is spent, a problem and a plan have one
+//! (`proofs/OneInline`), and a text is decided by the versions that it lists and by how many of them each turn saw
+//! (`text_is_one`). Want of memory is the one other answer; a proof of 2^32 lines or more counts as that.
 #![tactic(auto)]
+
+ghost use Rattle.sc_world.specs.OneText.{TextIsOne};
 
 mod copies;
 mod lines;
+mod printed;
 mod record;
 mod running;
 
 pub use record::{Ended, prove_alone};
+
+/// The law that two texts which tell runs over the same versions, with the same lengths in their given rows, are equal but
+/// for the ends of the finders.
+pub fn text_is_one()
+    ensures { TextIsOne }
+{}

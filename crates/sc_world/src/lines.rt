@@ -1,19 +1,12 @@
 //! The lines of a proof and their marks.
 
 ghost use Rattle.std.specs.Prelude.{◌≡◌, ◌≤◌, ◌+◌, IfOk, OnErr};
-ghost use Rattle.sc_core_rules.specs.Selection.{opening_name};
 ghost use Rattle.sc_world.specs.Recorded.{IsMarkOf, AreMarks};
 
 use sc_interp::{Version, VersionName, mark_of};
 use sc_term::{Line, List, Mem, OutOfMemory};
 use sc_text_run_rules::MarkRow;
 use std::alloc::Global;
-
-/// The name of the opening version.
-const OPENING: VersionName = VersionName {
-    finder: 0,
-    place: 0,
-};
 
 /// The number, from 1, of the line at this index, from 0. No list of 2^32 lines fits into memory.
 fn line_number(index: usize) -> Mem<u32>
@@ -26,26 +19,37 @@ fn line_number(index: usize) -> Mem<u32>
     Ok(index as u32 + 1)
 }
 
-/// The row of the line of that number, with its mark in the opening version.
-fn mark_row(alloc: Global, opening: &Version, number: u32, line: &Line) -> Mem<MarkRow>
-    ensures { IfOk result (λ row. IsMarkOf opening_name opening.now number line.now row) }
+/// The row of the line of that number, with its mark in the version of that name.
+fn mark_row(
+    alloc: Global,
+    name: VersionName,
+    version: &Version,
+    number: u32,
+    line: &Line,
+) -> Mem<MarkRow>
+    ensures { IfOk result (λ row. IsMarkOf name version.now number line.now row) }
 {
-    let truth = mark_of(alloc, opening.tables(), &line.clause)?;
+    let truth = mark_of(alloc, version.tables(), &line.clause)?;
     Ok(MarkRow {
         line: number,
-        name: OPENING,
+        name,
         truth,
     })
 }
 
-/// The marks of the lines in the opening version.
-pub fn mark_rows(alloc: Global, opening: &Version, lines: &[Line]) -> Mem<List<MarkRow>>
-    ensures { IfOk result (AreMarks opening_name opening.now lines.now) }
+/// The marks of the lines in the version of that name.
+pub fn mark_rows(
+    alloc: Global,
+    name: VersionName,
+    version: &Version,
+    lines: &[Line],
+) -> Mem<List<MarkRow>>
+    ensures { IfOk result (AreMarks name version.now lines.now) }
 {
     let mut rows = List::new(alloc);
     for (i, line) in lines.iter().enumerate() {
         let number = line_number(i)?;
-        rows.push(mark_row(alloc, opening, number, line)?)?;
+        rows.push(mark_row(alloc, name, version, number, line)?)?;
     }
     Ok(rows)
 }

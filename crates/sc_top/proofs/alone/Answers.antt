@@ -2,8 +2,8 @@ use Rattle.sc_top.proofs.ToldLaws.{answered, cut_short, decided, told, read_faul
 use Rattle.sc_top.proofs.alone.Goals as goal
 
 pub returns-clause-decided : goal.returns-clause-decided
-returns-clause-decided g c = λ decisive six.
-    decided c.args.command _ _ _ _ decisive _ _ _ c.judge-answer.result c.judge-answer.ensures.stands (c.write_answer.ensures.whole six)
+returns-clause-decided g c = λ six.
+    decided c.args.command _ _ _ _ _ _ _ c.judge-answer.result c.judge-answer.ensures.stands (c.write_answer.ensures.whole six)
 
 pub returns-clause-told : goal.returns-clause-told
 returns-clause-told g c = λ five six seven.

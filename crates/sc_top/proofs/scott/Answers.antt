@@ -1,15 +1,14 @@
 use Rattle.std.specs.Prelude.{IfSome}
 use Rattle.sc_top_words.specs.declared.commands.Command.{Command}
-use Rattle.sc_top.specs.Told.{IsDecisive, IsDecided, IsToldOf}
+use Rattle.sc_top.specs.Told.{IsDecided, IsToldOf}
 use Rattle.sc_top.specs.declared.answer.Answer.TheVariants.{WordsRefused}
 use Rattle.sc_top.proofs.ToldLaws.{answered_words, cut_short_words, of_command}
 use Rattle.sc_top.proofs.scott.Goals as goal
 
 pub returns-in-Some-clause-decided : goal.returns-in-Some-clause-decided
-returns-in-Some-clause-decided g c = λ command decisive asked six.
+returns-in-Some-clause-decided g c = λ command asked six.
     of_command c.args.words.now (λ (k : Command). IfSome (g.S.Source.left c.args.source.now) (IsDecided k (g.K.Sink.room c.args.sink.now) (g.K.Sink.taken c.args.sink.now) (g.K.Sink.taken c.alone.new.sink) c.alone.result))
-    c.in-Some.command command c.in-Some.ensures.asked asked
-    (c.alone.ensures.decided (of_command c.args.words.now IsDecisive command c.in-Some.command asked c.in-Some.ensures.asked decisive) six)
+    c.in-Some.command command c.in-Some.ensures.asked asked (c.alone.ensures.decided six)
 
 pub returns-in-Some-clause-told : goal.returns-in-Some-clause-told
 returns-in-Some-clause-told g c = λ command asked five six seven.

@@ -3,7 +3,8 @@ use Rattle.std.specs.List.{All}
 use Rattle.sc_core_rules.specs.Book.{numbered_clauses}
 use Rattle.sc_core_sites.specs.Sites.{site_of}
 use Rattle.sc_core.specs.Parents.{AreParents}
-use Rattle.sc_core.proofs.UsableLaws.{all_positive, all_within, parents_kept, given_kept, given_same, parents_infer, usable_conclusion, count_all}
+use Rattle.sc_core.proofs.CountLaws.{count_all}
+use Rattle.sc_core.proofs.UsableLaws.{all_positive, all_within, parents_kept, given_kept, given_same, parents_infer, usable_conclusion}
 use Rattle.sc_core.proofs.item.conclusion.Goals as goal
 
 pub fetch-requires-clause-there : goal.fetch-requires-clause-there

@@ -1,6 +1,5 @@
 use Rattle.sc_core.specs.Finish.{finish_of}
-use Rattle.sc_core.proofs.InferLaws.{moves}
-use Rattle.sc_core.proofs.TurningLaws.{moved_usable, worked_in}
+use Rattle.sc_core.proofs.TurningLaws.{moves, moved_usable, worked_in}
 use Rattle.sc_core.proofs.turning.give.Goals as goal
 
 pub work_all-requires-clause-listed : goal.work_all-requires-clause-listed
