@@ -11,3 +11,7 @@ pub mod OneText
 pub mod InlineLooks
 pub mod OneInline
 pub mod OneRecord
+pub mod WorldFronts
+pub mod WorldLaws
+pub mod WorldSight
+pub mod WorldSteps

@@ -1,10 +1,9 @@
 -- What a machine over events keeps.
-use Rattle.std.proofs.Common.{◌≡◌, ◌≢◌, ◌∙◌, sym, ap, subst, refl, ℕ, ◌+◌, ◌<◌, inl, inr, List, [], ◌∷◌, ◌++◌, length, get_or, map, Option, Some, None, Bool, true, false, arith}
+use Rattle.std.proofs.Common.{◌≡◌, ◌∙◌, sym, ap, subst, refl, ℕ, ◌+◌, ◌<◌, inl, inr, List, [], ◌∷◌, ◌++◌, length, get_or, map, Option, Some, None, arith}
 use Rattle.std.specs.Prelude.{IsSome}
 use Rattle.std.specs.List.{AllPairs, AllByRecursion}
 use Rattle.std.proofs.lemmas.List.{map-append}
 use Rattle.std.proofs.lemmas.List.Quantifiers.{all_pairs_push}
-use Rattle.sc_term.specs.declared.Line.{Line}
 use Rattle.sc_term.specs.Numbering.{numbered, with_element}
 use Rattle.sc_term.proofs.SubstitutionLaws.{all_join}
 use Rattle.sc_steps.proofs.ListLaws.{some_and}
@@ -19,7 +18,7 @@ use Rattle.sc_core_rules.specs.Start.{Starts}
 use Rattle.sc_core_rules.specs.Selection.{Seen}
 use Rattle.sc_core_rules.specs.WorkList.{Finish, Done, Found, TooMany}
 use Rattle.sc_core_rules.specs.Turn.{Run, Turns, Infer, with_end, outcome_of, goal_of}
-use Rattle.sc_core_rules.specs.Run.{IsRun, IsPrefixOf, Goes, started, RunRefutes}
+use Rattle.sc_core_rules.specs.Run.{IsRun, Goes, started, RunRefutes}
 use Rattle.sc_core_laws.specs.LeavesInTime.{LeavesInTime}
 use Rattle.sc_core_laws.specs.TrueRows.{IsFrontOf, RowsAreTrue}
 use Rattle.sc_guide.specs.Guided.{lengths_of}
@@ -28,7 +27,7 @@ use Rattle.sc_core.proofs.CountLaws.{run_turns}
 use Rattle.sc_core.proofs.LookLaws.{whole_look, all_lengths, no_more, at_place, told_stay, same_led}
 use Rattle.sc_world.specs.Events.{Machine, Event, Publish, Look, Turn, Happens, HappenAll, IsAtStart, IsAfter}
 use Rattle.sc_world.specs.Kept.{looks_made, looks_of_turns, IsMade, Holds}
-use Rattle.sc_world.proofs.WorldFronts.{begins_itself, same_front, front_over, nothing_front, numbered_front, grow_published, grow_seen, grown_from, looks_front}
+use Rattle.sc_world.proofs.WorldFronts.{begins_itself, nothing_front, numbered_front, grow_published, grow_seen, grown_from, looks_front}
 
 -- ---- the looks of the turns
 
@@ -178,15 +177,17 @@ module _ (problem : Stated) where
     publish_right : (f : ℕ) (v : ClaimedStructure) (versions : List ClaimedStructure) → numbered old.published f ≡ Some versions
         → IsRight (record old { published = with_element old.published f (versions ++ v ∷ []) })
     publish_right f v versions e =
-        let more = grown_from old.published f versions (versions ++ v ∷ []) e (v ∷ [], refl) in
-        (grow_published old.seen old.published f versions (versions ++ v ∷ []) right.0 e (v ∷ [], refl),
-        more_published old (with_element old.published f (versions ++ v ∷ [])) more right.0 right.1)
+        let more = grown_from old.published f versions (versions ++ v ∷ []) e (v ∷ [], refl) in (
+          grow_published old.seen old.published f versions (versions ++ v ∷ []) right.0 e (v ∷ [], refl),
+          more_published old (with_element old.published f (versions ++ v ∷ [])) more right.0 right.1,
+        )
 
     look_right : (f : ℕ) (versions : List ClaimedStructure) → numbered old.published f ≡ Some versions → IsRight (record old { seen = with_element old.seen f versions })
     look_right f versions e =
-        let before = numbered_front old.seen old.published f versions right.0 e in
-        (grow_seen old.seen old.published f versions versions right.0 e (begins_itself versions),
-        more_seen old (with_element old.seen f versions) (grown_from old.seen f before.0 versions before.1 before.2) right.1)
+        let before = numbered_front old.seen old.published f versions right.0 e in (
+          grow_seen old.seen old.published f versions versions right.0 e (begins_itself versions),
+          more_seen old (with_element old.seen f versions) (grown_from old.seen f before.0 versions before.1 before.2) right.1,
+        )
 
     turn_right : (run : Run) → Goes problem old.run old.seen run → IsRight (record old { run = run })
     turn_right run (inl k) = subst (λ (r : Run). IsRight (record old { run = r })) (sym k.1) right

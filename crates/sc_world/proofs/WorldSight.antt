@@ -1,11 +1,10 @@
 -- A prover that sees one version more after another of a finder's list.
-use Rattle.std.proofs.Common.{◌≡◌, ◌∙◌, sym, ap, subst, refl, ℕ, zero, suc, ◌+◌, ◌-◌, ◌<◌, ◌≤◌, ◌^◌, List, [], ◌∷◌, ◌++◌, length, slice_get, get_or, take, Option, Some, None, arith}
+use Rattle.std.proofs.Common.{◌≡◌, ◌∙◌, sym, ap, subst, refl, ℕ, zero, suc, ◌+◌, ◌-◌, ◌<◌, ◌≤◌, ◌^◌, List, [], ◌∷◌, ◌++◌, length, slice_get, take, Option, Some, None, arith}
 use Rattle.std.specs.Prelude.{slice_set, IsSomeAnd}
 use Rattle.std.proofs.lemmas.List.{length-take-le}
 use Rattle.sc_term.specs.Numbering.{numbered, with_element}
 use Rattle.sc_interp.specs.Versions.{ClaimedStructure}
 use Rattle.sc_core_rules.specs.Selection.{Seen}
-use Rattle.sc_core_rules.specs.Run.{IsPrefixOf}
 use Rattle.sc_core_rules.proofs.NumberLaws.{numbered-suc}
 use Rattle.sc_core.specs.State.{ProverState}
 use Rattle.sc_guide.specs.Guided.{grown}

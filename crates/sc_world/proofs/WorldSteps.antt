@@ -1,7 +1,6 @@
 -- What the calls of a world change.
-use Rattle.std.proofs.Common.{◌≡◌, ◌≢◌, ◌∙◌, sym, ap, subst, refl, ℕ, ◌+◌, ◌-◌, ◌<◌, ◌≤◌, ◌^◌, inr, List, [], ◌∷◌, ◌++◌, length, length-append, replicate, slice_get, get_or, take, Option, Some, None, Bool, true, false, arith}
+use Rattle.std.proofs.Common.{◌≡◌, ◌∙◌, sym, ap, subst, refl, ℕ, ◌-◌, ◌<◌, ◌≤◌, ◌^◌, inr, List, [], ◌∷◌, ◌++◌, length, length-append, replicate, get_or, take, Option, Some, None, Bool, true, false, arith}
 use Rattle.std.specs.Prelude.{Result, Ok, Err, OnOk, OnErr, IsSome, IsSomeAnd}
-use Rattle.std.specs.List.{All}
 use Rattle.std.proofs.lemmas.List.{take_all, take-append-le, length-take-le}
 use Rattle.std.proofs.lemmas.List.Elements.{All-set, All-replicate}
 use Rattle.std.proofs.lemmas.Option.{slice_get-get_or}
@@ -12,15 +11,15 @@ use Rattle.sc_core_rules.specs.declared.row.Outcome.{Outcome}
 use Rattle.sc_core_rules.specs.Book.{Book}
 use Rattle.sc_core_rules.specs.Start.{Starts}
 use Rattle.sc_core_rules.specs.Selection.{Seen}
-use Rattle.sc_core_rules.specs.Turn.{Run, Turns}
+use Rattle.sc_core_rules.specs.Turn.{Turns}
 use Rattle.sc_core_rules.specs.Run.{IsPrefixOf}
 use Rattle.sc_core_laws.specs.TrueRows.{IsFrontOf}
 use Rattle.sc_core.specs.State.{ProverState, at_start}
 use Rattle.sc_guide.specs.Guided.{grown}
-use Rattle.sc_world.specs.Events.{Machine, Publish, Look, Turn, Happens}
+use Rattle.sc_world.specs.Events.{Look, Turn, Happens}
 use Rattle.sc_world.specs.Kept.{IsMade, AreShort}
 use Rattle.sc_world.specs.World.{WorldState, machine_of, world_of, SeesUpTo, SeesMore, IsWorld}
-use Rattle.sc_world.proofs.WorldFronts.{nothing_front, same_front, front_of, as_many, numbered_front, grow_published, grow_seen, grown_from}
+use Rattle.sc_world.proofs.WorldFronts.{nothing_front, front_of, as_many, numbered_front, grow_published, grow_seen, grown_from}
 use Rattle.sc_world.proofs.WorldLaws.{start_made, more_published, more_seen, turn_made}
 use Rattle.sc_world.proofs.WorldSight.{grown_is, numbered_at}
 

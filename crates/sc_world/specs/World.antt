@@ -1,5 +1,5 @@
 -- What a world is seen as.
-use Rattle.std.specs.Prelude.{◌≡◌, ◌≤◌, ℕ, List, Bool, true, IsSomeAnd, take}
+use Rattle.std.specs.Prelude.{◌≡◌, ℕ, List, Bool, true, IsSomeAnd, take}
 use Rattle.sc_term.specs.Numbering.{numbered, with_element}
 use Rattle.sc_input_rules.specs.Problem.{Stated}
 use Rattle.sc_interp.specs.Versions.{ClaimedStructure}

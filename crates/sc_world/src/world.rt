@@ -53,12 +53,7 @@ fn empty_lists(alloc: Global, count: u32) -> Mem<Vec<List<Version>>>
 }
 
 /// A copy of the version joins the end of the list of that finder. Where memory is wanting, nothing changes.
-fn push_copy(
-    alloc: Global,
-    lists: &mut [List<Version>],
-    finder: u32,
-    version: &Version,
-) -> Mem<()>
+fn push_copy(alloc: Global, lists: &mut [List<Version>], finder: u32, version: &Version) -> Mem<()>
     requires some { 1 ≤ finder }
     requires there { finder ≤ length lists.old }
     ensures joined { OnOk result (lists.new ≡ grown lists.old finder version.now) }

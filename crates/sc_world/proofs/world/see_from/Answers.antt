@@ -1,4 +1,4 @@
-use Rattle.std.proofs.Common.{◌∙◌, sym, ap, Some, length, arith}
+use Rattle.std.proofs.Common.{◌∙◌, sym, ap, Some, arith}
 use Rattle.std.proofs.lemmas.Option.{slice_get-get_or}
 use Rattle.sc_world.proofs.WorldSight.{starts_seeing, few_seen, sees_next}
 use Rattle.sc_world.proofs.world.see_from.Goals as goal

@@ -1,5 +1,3 @@
-use Rattle.std.proofs.Common.{◌≤◌, length}
-use Rattle.sc_world.specs.World.{SeesUpTo}
 use Rattle.sc_world.proofs.WorldSight.{IsSeeing}
 use Rattle.sc_world.proofs.world.see_from.Given as goal
 

@@ -1,4 +1,4 @@
-use Rattle.std.proofs.Common.{◌≡◌, ◌∙◌, sym, ap, subst, ◌≤◌, ◌<◌, ◌^◌, ℕ, List, Some, length, arith}
+use Rattle.std.proofs.Common.{◌≡◌, sym, ap, subst, ◌≤◌, ◌<◌, ◌^◌, List, length, arith}
 use Rattle.std.specs.Prelude.{IsSomeAnd}
 use Rattle.std.proofs.lemmas.List.{with_items_is}
 use Rattle.sc_term.specs.Numbering.{numbered}
