@@ -15,3 +15,5 @@ pub mod WorldFronts
 pub mod WorldLaws
 pub mod WorldSight
 pub mod WorldSteps
+pub mod WorldOne
+pub mod WorldExample

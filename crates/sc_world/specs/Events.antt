@@ -2,6 +2,7 @@
 use Rattle.std.specs.Prelude.{◌≡◌, ℕ, List, [], ◌∷◌, ◌++◌, Option, IsSomeAnd, replicate}
 use Rattle.sc_term.specs.Numbering.{numbered, with_element}
 use Rattle.sc_input_rules.specs.Problem.{Stated}
+use Rattle.sc_input_rules.specs.WellFormed.{IsProblem}
 use Rattle.sc_interp.specs.Versions.{ClaimedStructure}
 use Rattle.sc_core_rules.specs.Book.{Book}
 use Rattle.sc_core_rules.specs.Start.{Starts}
@@ -46,3 +47,7 @@ IsAtStart problem finders m =
 -- the machine that so many finders start, after these events
 abbrev pub IsAfter : Stated → ℕ → List Event → Machine → Type 0
 IsAfter problem finders events m = (first : Machine) × IsAtStart problem finders first × HappenAll problem first events m
+
+-- so many finders and a list of events lead to one machine
+abbrev pub EventsAreOne : Type 0
+EventsAreOne = (problem : Stated) (finders : ℕ) (events : List Event) (m other : Machine) → IsProblem problem → IsAfter problem finders events m → IsAfter problem finders events other → m ≡ other

@@ -6,6 +6,7 @@ use Rattle.sc_term.specs.Proof.{IsProof}
 use Rattle.sc_term.specs.Refuted.{IsRefuted}
 use Rattle.sc_steps.specs.Splice.{IsSplice}
 use Rattle.sc_input_rules.specs.Problem.{Stated}
+use Rattle.sc_input_rules.specs.WellFormed.{IsProblem}
 use Rattle.sc_interp.specs.Versions.{ClaimedStructure}
 use Rattle.sc_core_rules.specs.declared.row.GivenRow.{GivenRow}
 use Rattle.sc_core_rules.specs.declared.row.Outcome.{Outcome}
@@ -16,7 +17,7 @@ use Rattle.sc_core_rules.specs.Run.{IsRun}
 use Rattle.sc_core_laws.specs.TrueRows.{IsFrontOf, IsTrueRow}
 use Rattle.sc_core_laws.specs.LeavesInTime.{WasPut, HasTurn, WasGivenBy, IsDeletedBy, last_turn}
 use Rattle.sc_core.specs.State.{look_told, AreLengthsIn, SeesNoFewer}
-use Rattle.sc_world.specs.Events.{Machine}
+use Rattle.sc_world.specs.Events.{Machine, Event, IsAfter}
 
 -- ---- the looks of the turns
 
@@ -66,6 +67,10 @@ pub record Holds (problem : Stated) (m : Machine) : Type 0 where
   pub true_rows : AllByRecursion (IsTrueRow problem m.published m.run.book) m.run.given
   pub in_time : LeaveInTime problem m
   pub refutes : m.run.ended ≡ Some Proof → Refutes problem m.run
+
+-- it holds after every list of events
+abbrev pub EventsKeep : Type 0
+EventsKeep = (problem : Stated) (finders : ℕ) (events : List Event) (m : Machine) → IsProblem problem → IsAfter problem finders events m → Holds problem m
 
 -- no list is longer than its places can be told
 abbrev pub AreShort : Seen → Type 0

@@ -15,7 +15,9 @@
 //! refused one may not, and `keeps` tells what holds after any calls (`specs/Kept`): each seen list begins its finder's
 //! published list; while the prover is whole, its run is the one over a look for each turn that was made; each given row
 //! has the mark of its clause in the version that it names, which was published or is the opening one; every clause leaves
-//! the set of support in time; and a proof refutes the problem's clauses.
+//! the set of support in time; and a proof refutes the problem's clauses. `events_are_one` and `events_keep` are laws of the
+//! machine itself: so many finders and a list of events lead to one state, and the same holds of it. `proofs/WorldExample`
+//! has a worked case.
 //!
 //! It stands on the prover, on the chooser of candidates, on the marks of any clause (`sc_interp`), on the laws of
 //! `sc_core_laws`, and on the value of a run (`sc_text_run_rules`). `specs/Underway` says what is kept from turn to turn.
@@ -34,7 +36,7 @@ mod running;
 mod world;
 
 pub use record::{Ended, prove_alone};
-pub use world::World;
+pub use world::{World, events_are_one, events_keep};
 
 /// The law that two texts which tell runs over the same versions, with the same lengths in their given rows, are equal but
 /// for the ends of the finders.

@@ -6,8 +6,8 @@ ghost use Rattle.sc_input_rules.specs.WellFormed.{IsProblem};
 ghost use Rattle.sc_core_laws.specs.TrueRows.{IsFrontOf};
 ghost use Rattle.sc_core.specs.State.{end_of};
 ghost use Rattle.sc_guide.specs.Guided.{grown};
-ghost use Rattle.sc_world.specs.Events.{Publish, Look, Turn, Happens, IsAtStart};
-ghost use Rattle.sc_world.specs.Kept.{Holds};
+ghost use Rattle.sc_world.specs.Events.{Publish, Look, Turn, Happens, IsAtStart, EventsAreOne};
+ghost use Rattle.sc_world.specs.Kept.{Holds, EventsKeep};
 ghost use Rattle.sc_world.specs.World.{machine_of, prover_of, SeesMore, SeesUpTo};
 
 use sc_core::{Prover, TurnEnd};
@@ -191,4 +191,18 @@ impl World {
     {
         &self.prover
     }
+}
+
+/// The law that so many finders and a list of events lead to one machine, whatever the problem is (`EventsAreOne`).
+pub fn events_are_one()
+    ensures { EventsAreOne }
+{}
+
+/// The law that after every list of events all that `keeps` tells of a world holds of the machine (`EventsKeep`).
+pub fn events_keep()
+    ensures { EventsKeep }
+{
+    rows_are_true();
+    clauses_leave_in_time();
+    run_refutes();
 }
