@@ -11,3 +11,9 @@ pub mod OneText
 pub mod InlineLooks
 pub mod OneInline
 pub mod OneRecord
+pub mod WorldFronts
+pub mod WorldLaws
+pub mod WorldSight
+pub mod WorldSteps
+pub mod WorldOne
+pub mod WorldExample

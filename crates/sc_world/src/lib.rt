@@ -10,6 +10,15 @@
 //! together for the empty clause, they are a proof and refute the input clauses, and the marks are those of the lines in
 //! the guide at the end; and every clause leaves the set of support in time.
 //!
+//! `World` is the machine of three kinds of event without threads: a finder publishes a version, the prover looks at a
+//! finder's list, and it makes a turn. Each call is the event of its name (`specs/Events`), or changes nothing that a
+//! refused one may not, and `keeps` tells what holds after any calls (`specs/Kept`): each seen list begins its finder's
+//! published list; while the prover is whole, its run is the one over a look for each turn that was made; each given row
+//! has the mark of its clause in the version that it names, which was published or is the opening one; every clause leaves
+//! the set of support in time; and a proof refutes the problem's clauses. `events_are_one` and `events_keep` are laws of the
+//! machine itself: so many finders and a list of events lead to one state, and the same holds of it. `proofs/WorldExample`
+//! has a worked case.
+//!
 //! It stands on the prover, on the chooser of candidates, on the marks of any clause (`sc_interp`), on the laws of
 //! `sc_core_laws`, and on the value of a run (`sc_text_run_rules`). `specs/Underway` says what is kept from turn to turn.
 //! Callers may rest on the record alone: where no search for a model is spent, a problem and a plan have one
@@ -24,8 +33,10 @@ mod lines;
 mod printed;
 mod record;
 mod running;
+mod world;
 
 pub use record::{Ended, prove_alone};
+pub use world::{World, events_are_one, events_keep};
 
 /// The law that two texts which tell runs over the same versions, with the same lengths in their given rows, are equal but
 /// for the ends of the finders.
