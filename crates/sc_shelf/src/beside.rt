@@ -30,12 +30,7 @@ fn publish_copy<R: Wait>(rt: &R, alloc: Global, press: &mut Press, version: &Ver
 }
 
 /// Publishes a copy of each version, in order.
-fn publish_each<R: Wait>(
-    rt: &R,
-    alloc: Global,
-    press: &mut Press,
-    versions: &[Version],
-) -> Mem<()>
+fn publish_each<R: Wait>(rt: &R, alloc: Global, press: &mut Press, versions: &[Version]) -> Mem<()>
     requires whole { press.old.whole ≡ true }
     requires open { is_closed press.old ≡ false }
     requires over { All (IsOver press.old.symbols) versions.now }

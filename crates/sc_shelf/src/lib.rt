@@ -14,6 +14,8 @@
 //! learnt, and tells its length; a refused one sees a front of such a list. `told` notes what is published, and once a
 //! closed press's note was learnt, a look that is Ok sees exactly what the press has published (`look_last`). Want of
 //! memory is the one other answer: after a refused publish or close the list is as before, and the press isn't whole.
+//! Both ends may go to another thread (`proofs/Crossing`): `publish_while_looking` publishes in one while another looks, and
+//! each look begins with the one before.
 //!
 //! No clause says that the list which a look sees is the one published at a step of that call, since no clause can name
 //! what another thread does: the rule says it, which the one step by which a look enters is proved to keep. A look that

@@ -56,7 +56,13 @@ struct Row {
 }
 
 /// Publishes both, looks, closes, learns, and looks again.
-fn publish_and_look<R: Wait>(rt: &R, press: &mut Press, window: &mut Window, first: Version, second: Version) -> Mem<Row>
+fn publish_and_look<R: Wait>(
+    rt: &R,
+    press: &mut Press,
+    window: &mut Window,
+    first: Version,
+    second: Version,
+) -> Mem<Row>
     requires whole { press.old.whole ≡ true }
     requires open { is_closed press.old ≡ false }
     requires empty { (listed press.old ≡ []) × (window.old.looks ≡ []) }
@@ -98,7 +104,9 @@ fn one_row<R: Wait>(rt: &R, alloc: Global) -> Option<Row> {
 }
 
 #[test]
-fn two_versions_are_seen_by_a_look_and_the_same_after_the_close(rt: HostRuntime) -> Result<(), Fail> {
+fn two_versions_are_seen_by_a_look_and_the_same_after_the_close(
+    rt: HostRuntime,
+) -> Result<(), Fail> {
     let row = Row {
         places: (0, 1),
         before: 0,
@@ -130,7 +138,9 @@ fn run<R: Threads + Wait + Sync>(rt: &R, alloc: Global) -> Option<(u32, usize, u
 }
 
 #[test]
-fn a_hundred_versions_are_published_while_another_thread_looks(rt: HostRuntime) -> Result<(), Fail> {
+fn a_hundred_versions_are_published_while_another_thread_looks(
+    rt: HostRuntime,
+) -> Result<(), Fail> {
     assert_eq!(rt; run(&rt, rt.alloc()), Some((100, 100, 51)));
     Ok(())
 }
