@@ -1,8 +1,8 @@
 -- Instances that are false by the values so far, and instances that don't read a cell.
-use Rattle.std.proofs.Common.{◌≡◌, ◌∙◌, sym, ap, subst, refl, ℕ, zero, suc, ◌+◌, ◌<◌, ◌≤◌, ◌⊎◌, inl, inr, ◌↔◌, Bool, false, IsTrue, List, [], ◌∷◌, ◌++◌, length, slice_get, slice_index, get_or, Option, Some, None, arith}
+use Rattle.std.proofs.Common.{◌≡◌, ◌∙◌, sym, ap, subst, refl, ℕ, zero, suc, ◌<◌, ◌≤◌, inl, inr, ◌↔◌, Bool, IsTrue, List, [], ◌∷◌, ◌++◌, length, slice_get, slice_index, get_or, Option, Some, None}
 use Rattle.std.specs.Option.{IsSomeAnd}
 use Rattle.std.specs.List.{All, Contains}
-use Rattle.std.proofs.lemmas.List.Elements.{All-contains, All-push, Contains-push, Contains-append_left}
+use Rattle.std.proofs.lemmas.List.Elements.{All-contains}
 use Rattle.std.proofs.lemmas.Option.{slice_get-get_or, slice_get_within, get_or_from_slice_get}
 use Rattle.sc_term.specs.declared.Clause.{Clause}
 use Rattle.sc_term.specs.Clause.{width}
@@ -41,10 +41,10 @@ some_there : {A : Type 0} (P : A → Type 0) (o : Option A) → IsSomeAnd o P �
 some_there P None h = absurd h
 some_there P (Some x) h = (x, refl, h)
 
-is_first : {A : Type 0} (xs : List A) (k : ℕ) (x : A) → slice_get xs k ≡ Some x → Contains xs x
+pub is_first : {A : Type 0} (xs : List A) (k : ℕ) (x : A) → slice_get xs k ≡ Some x → Contains xs x
 is_first xs k x at = (k, slice_get_within xs k x at, get_or_from_slice_get xs k x x at)
 
-contained_at : {A : Type 0} (xs : List A) (x : A) → Contains xs x → (k : ℕ) × (slice_get xs k ≡ Some x)
+pub contained_at : {A : Type 0} (xs : List A) (x : A) → Contains xs x → (k : ℕ) × (slice_get xs k ≡ Some x)
 contained_at xs x (k, lt, e) = (k, slice_get-get_or xs k x lt ∙ ap (λ y. Some y) e)
 
 module _ (clauses : List Clause) (size : ℕ) (instances : List GroundInstance) (some : 1 ≤ size) (are : AreInstances clauses size instances) where
@@ -106,53 +106,7 @@ module _ (clauses : List Clause) (size : ℕ) (instances : List GroundInstance) 
         λ c. three.1 (readers_consistent p.cells readers p c),
       )
 
--- ---- the readers of a cell
-
--- those among the first instances
-pub record AreReadersBelow (clauses : List Clause) (instances : List GroundInstance) (cells : List Entry) (k : ℕ) (readers : List ℕ) (end : ℕ) : Type 0 where
-  pub places : All (λ n. n < length instances) readers
-  pub others : (n : ℕ) (i : GroundInstance) → n < end → slice_get instances n ≡ Some i → Contains readers n ⊎ IsUnread clauses cells k i
-
-module _ (clauses : List Clause) (instances : List GroundInstance) (cells : List Entry) (k : ℕ) where
-  equal_or_less : (m n : ℕ) → m < n + 1 → (m < n) ⊎ (m ≡ n)
-  equal_or_less m zero h = inr (omega (arith, h))
-  equal_or_less zero (suc n) h = inl (omega arith)
-  equal_or_less (suc m) (suc n) h = elim (equal_or_less m n (omega (arith, h))) [
-    | inl less ↦ inl (omega (arith, less))
-    | inr same ↦ inr (omega (arith, same))
-  ]
-
-  pub reader_more : (readers : List ℕ) (end : ℕ) → end < length instances → AreReadersBelow clauses instances cells k readers end
-      → AreReadersBelow clauses instances cells k (readers ++ end ∷ []) (end + 1)
-  reader_more readers end lt h = record {
-    places = All-push (λ n. n < length instances) readers end h.places lt;
-    others = λ n i below at. elim (equal_or_less n end below) [
-      | inl less ↦ elim (h.others n i less at) [
-        | inl reads ↦ inl (Contains-append_left readers (end ∷ []) n reads)
-        | inr unread ↦ inr unread
-      ]
-      | inr same ↦ inl (subst (Contains (readers ++ end ∷ [])) (sym same) (Contains-push readers end))
-    ];
-  }
-
-  pub no_reader_more : (readers : List ℕ) (end : ℕ) (i : GroundInstance) → slice_get instances end ≡ Some i → IsUnread clauses cells k i → AreReadersBelow clauses instances cells k readers end
-      → AreReadersBelow clauses instances cells k readers (end + 1)
-  no_reader_more readers end i here unread h = record {
-    places = h.places;
-    others = λ n j below at. elim (equal_or_less n end below) [
-      | inl less ↦ h.others n j less at
-      | inr same ↦
-          let both : ◌≡◌ {A = Option GroundInstance} (Some j) (Some i) = sym at ∙ ap (slice_get instances) same ∙ here in
-          let is : j ≡ i = cc in
-          inr (subst (IsUnread clauses cells k) (sym is) unread)
-    ];
-  }
-
-  pub all_read : (readers : List ℕ) (end : ℕ) → length instances ≤ end → AreReadersBelow clauses instances cells k readers end → AreReaders clauses instances cells k readers
-  all_read readers end all h = record {
-    places = h.places;
-    others = λ n i at. h.others n i (omega (arith, all, slice_get_within instances n i at)) at;
-  }
+-- ---- lists that grow
 
 pub each_more : {A : Type 0} (P : ℕ → A → Type 0) (xs : List A) (x : A) → ((k : ℕ) (y : A) → slice_get xs k ≡ Some y → P k y) → P (length xs) x
     → (k : ℕ) (y : A) → slice_get (xs ++ x ∷ []) k ≡ Some y → P k y

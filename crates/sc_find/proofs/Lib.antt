@@ -11,3 +11,6 @@ pub mod TableLaws
 pub mod StepLaws
 pub mod PieceLaws
 pub mod CellTables
+pub mod MentionLaws
+pub mod StretchLaws
+pub mod ReaderLaws

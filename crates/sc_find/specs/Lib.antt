@@ -2,3 +2,4 @@ pub mod Models
 pub mod Prepared
 pub mod Answers
 pub mod Search
+pub mod Asked

@@ -22,6 +22,12 @@ pub record AreReaders (clauses : List Clause) (instances : List GroundInstance) 
   pub places : All (λ n. n < length instances) readers
   pub others : (n : ℕ) (i : GroundInstance) → slice_get instances n ≡ Some i → Contains readers n ⊎ IsUnread clauses cells k i
 
+-- places of readers before and after, to which those of the instances from one place up to another were added
+pub record AreReadersMore (clauses : List Clause) (instances : List GroundInstance) (cells : List Entry) (k start end : ℕ) (before after : List ℕ) : Type 0 where
+  pub places : All (λ n. n < length instances) before → All (λ n. n < length instances) after
+  pub kept : (n : ℕ) → Contains before n → Contains after n
+  pub others : (n : ℕ) (i : GroundInstance) → start ≤ n → n < end → slice_get instances n ≡ Some i → Contains after n ⊎ IsUnread clauses cells k i
+
 pub record IsPrepared (task : Task) (cells : List Cell) (instances : List GroundInstance) (readers : List (List ℕ)) : Type 0 where
   pub not_empty : 1 ≤ task.size
   pub small : task.size ≤ 8

@@ -122,6 +122,8 @@ impl<'a> Job<'a> {
             clauses.as_slice(),
             ground.instances().as_slice(),
             &given,
+            cells.as_slice(),
+            sig.len(),
         ) else {
             return Err(JobError::OutOfMemory);
         };

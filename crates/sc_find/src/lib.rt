@@ -6,16 +6,18 @@
 //!
 //! It stands on `sc_cells` (cells and instances), on `sc_find_given` (which literals are false by the values so far) and on
 //! `sc_interp` (tables). The search keeps one list of values, so that no node allocates, and after a value looks only at
-//! the instances that may read its cell.
+//! the instances that may read its cell: when a job is made, each cell asks those whose clause mentions its symbol.
 #![tactic(auto)]
 
 mod answer;
 mod checking;
 mod find;
 mod job;
+mod mentions;
 mod pieces;
 mod readers;
 mod search;
+mod stretches;
 mod tables;
 
 pub use answer::{Found, FoundAll, JobError, Piece};

@@ -1,3 +1,5 @@
+pub mod Crossing
+pub mod LookLaws
 pub mod Fronts
 pub mod EntryLaws
 pub mod Steps

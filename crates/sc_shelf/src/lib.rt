@@ -21,6 +21,7 @@
 //! room for eight readers: the window's, and one for each note that isn't spent.
 #![tactic(auto)]
 
+mod beside;
 mod compare;
 mod copies;
 mod entry;
@@ -31,10 +32,13 @@ mod rule;
 mod shelf;
 mod sight;
 mod store;
+#[cfg(test)]
+mod tests;
 mod told;
 mod view;
 mod window;
 
+pub use beside::publish_while_looking;
 pub use finish::look_last;
 pub use press::Press;
 pub use sc_interp::Version;
