@@ -3,3 +3,4 @@ pub mod FinderList
 pub mod Choosing
 pub mod Trying
 pub mod Keeping
+pub mod Finding

@@ -18,11 +18,18 @@
 
 mod choosing;
 mod copies;
+mod finder;
+mod gate;
+mod halt;
 mod light;
 mod plan;
 mod trying;
 mod worked;
 
 pub use choosing::Chooser;
+pub use finder::Finder;
+pub use gate::{Gate, Open};
+pub use halt::{Halt, Stop};
 pub use plan::Plan;
+pub use sc_text_run_rules::FinderEnd;
 pub use worked::{Skip, Worked};

@@ -6,3 +6,5 @@ pub mod Printed
 pub mod Events
 pub mod Kept
 pub mod World
+pub mod EventsTold
+pub mod Beside

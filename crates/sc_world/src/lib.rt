@@ -28,6 +28,7 @@
 
 ghost use Rattle.sc_world.specs.OneText.{TextIsOne};
 
+mod beside;
 mod copies;
 mod lines;
 mod printed;
@@ -35,6 +36,7 @@ mod record;
 mod running;
 mod world;
 
+pub use beside::{Beside, prove_with_finders};
 pub use record::{Ended, prove_alone};
 pub use world::{World, events_are_one, events_keep};
 
