@@ -230,7 +230,11 @@ fn is_as_wanted<R: Threads + Wait + Sync, K: Sink>(
     sink: &mut K,
 ) -> Mem<bool> {
     let (bytes, wanted) = case(alloc, row)?;
-    let runs = if row.words.starts_with(GATED) { RUNS } else { 1 };
+    let runs = if row.words.starts_with(GATED) {
+        RUNS
+    } else {
+        1
+    };
     for _ in 0..runs {
         let answered = answer_to(rt, alloc, row, &bytes)?;
         if answered.as_slice() != wanted.as_slice() {

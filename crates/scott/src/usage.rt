@@ -20,16 +20,10 @@ An option is `--name value` or `--name=value`, once, in any order behind the com
 1 to 10 digits. In parentheses stands what holds without it. More is in docs/scott.1 and README.md.
 ";
 
-/// An option's name, and the range of its value.
-#[derive(Clone, Copy)]
-struct Row {
-    name: &'static str,
-    from: u64,
-    to: u64,
-}
+/// An option: its command, its name, and the least and the greatest value.
+type Row = (&'static str, &'static str, u64, u64);
 
-/// Command, name, and the least and the greatest value.
-const OPTIONS: [(&str, &str, u64, u64); 7] = [
+const OPTIONS: [Row; 7] = [
     ("prove", "--finders", 0, 8),
     ("prove", "--size", 1, 8),
     ("prove", "--nodes", 1, 10_000_000),
@@ -39,60 +33,48 @@ const OPTIONS: [(&str, &str, u64, u64); 7] = [
     ("model", "--workers", 1, 8),
 ];
 
-/// A value is 1 to 10 digits.
-const MOST_DIGITS: usize = 10;
-
-impl Row {
-    fn takes(&self, value: &str) -> bool {
-        let is_value = value.len() <= MOST_DIGITS && value.bytes().all(|byte| byte.is_ascii_digit());
-        match value.parse::<u64>() {
-            Ok(number) => is_value && self.from <= number && number <= self.to,
-            Err(_) => false,
-        }
-    }
-
-    fn wants(&self, alloc: Global, value: &str) -> Result<String, AllocError> {
-        let Row { name, from, to } = self;
-        format!(in alloc; "{name} takes a number from {from} to {to}, and not {value:?}")
-    }
-}
-
 fn row_of(command: &str, name: &str) -> Option<Row> {
-    for (of, known, from, to) in OPTIONS {
-        if of == command && known == name {
-            return Some(Row {
-                name: known,
-                from,
-                to,
-            });
+    for row in OPTIONS {
+        if row.0 == command && row.1 == name {
+            return Some(row);
         }
     }
     None
+}
+
+/// Whether it is 1 to 10 digits, of a number in the range.
+fn is_in_range(value: &str, from: u64, to: u64) -> bool {
+    let is_value = value.len() <= 10 && value.bytes().all(|byte| byte.is_ascii_digit());
+    is_value && matches!(value.parse::<u64>(), Ok(number) if from <= number && number <= to)
 }
 
 /// The first word behind a command with options that isn't understood; where each is, an option stands twice.
 fn about_options(alloc: Global, command: &str, words: &[String]) -> Result<String, AllocError> {
     let mut open = None;
     for word in words {
-        let (name, value) = match word.split_once('=') {
+        let (name, inside) = match word.split_once('=') {
             Some((name, value)) => (name, Some(value)),
             None => (word.as_str(), None),
         };
         let (row, value) = match open {
-            Some(row) => (row, Some(word.as_str())),
-            None => match row_of(command, name) {
-                Some(row) => (row, value),
-                None => return format!(in alloc; "{command} has no option {name:?}"),
-            },
+            Some(row) => (Some(row), Some(word.as_str())),
+            None => (row_of(command, name), inside),
+        };
+        let Some((_, option, from, to)) = row else {
+            return format!(in alloc; "{command} has no option {name:?}");
         };
         open = match value {
-            Some(value) if !row.takes(value) => return row.wants(alloc, value),
-            Some(_) => None,
-            None => Some(row),
+            None => row,
+            Some(value) if is_in_range(value, from, to) => None,
+            Some(value) => return format!(in alloc;
+                "{option} takes a number from {from} to {to}, and not {value:?}"
+            ),
         };
     }
     match open {
-        Some(row) => row.wants(alloc, ""),
+        Some((_, option, from, to)) => format!(in alloc;
+            "{option} takes a number from {from} to {to}"
+        ),
         None => format!(in alloc; "an option of {command} stands twice"),
     }
 }
