@@ -1,5 +1,6 @@
 pub mod LightLaws
 pub mod TryingLaws
+pub mod PresentLaws
 pub mod KeepingLaws
 pub mod FinderLaws
 pub mod OneModel
