@@ -5,3 +5,4 @@ pub mod FinderLaws
 pub mod OneModel
 pub mod DecidedLaws
 pub mod ChooserLaws
+pub mod Crossing
