@@ -4,3 +4,4 @@ pub mod Choosing
 pub mod Trying
 pub mod Keeping
 pub mod Finding
+pub mod Underway

@@ -25,6 +25,7 @@ mod light;
 mod plan;
 mod trying;
 mod worked;
+mod working;
 
 pub use choosing::Chooser;
 pub use finder::Finder;
