@@ -6,3 +6,5 @@ pub mod FinderLaws
 pub mod OneModel
 pub mod DecidedLaws
 pub mod ChooserLaws
+pub mod WorkingLaws
+pub mod Crossing

@@ -5,3 +5,4 @@ pub mod Trying
 pub mod Present
 pub mod Keeping
 pub mod Finding
+pub mod Underway

@@ -28,6 +28,7 @@ mod plan;
 mod present;
 mod trying;
 mod worked;
+mod working;
 
 pub use choosing::Chooser;
 pub use finder::Finder;
