@@ -23,7 +23,7 @@ use sc_base::{Sink, SoundSink, SoundSource, StdSink, StdSource, read_all, write_
 use sc_input::{InputError, read_items};
 use sc_term::{Mem, OutOfMemory};
 use sc_text::{print_proof, print_run, read_proof, read_run};
-use sc_top::{Answer, scott_over_sound};
+use sc_top::{Answer, Open, scott_over_sound};
 use std::alloc::Global;
 use std::io;
 use std::process::ExitCode;
@@ -163,10 +163,10 @@ fn reprint(alloc: Global, bytes: &[u8]) -> Mem<Vec<u8>> {
 }
 
 /// The status and the answer of the program.
-fn answer(alloc: Global, words: &[String], bytes: Vec<u8>) -> Mem<Vec<u8>> {
+fn answer(rt: &HostRuntime, alloc: Global, words: &[String], bytes: Vec<u8>) -> Mem<Vec<u8>> {
     let mut source = SoundSource::new(bytes);
     let mut sink = SoundSink::new(alloc, MOST_ANSWER)?;
-    let status = scott_over_sound(alloc, words, &mut source, &mut sink);
+    let status = scott_over_sound(rt, alloc, words, &mut source, &mut sink, &Open);
     told(
         alloc,
         format!(in alloc; "{status}")?.as_bytes(),
@@ -174,12 +174,12 @@ fn answer(alloc: Global, words: &[String], bytes: Vec<u8>) -> Mem<Vec<u8>> {
     )
 }
 
-fn answer_to(alloc: Global, row: Row, bytes: Vec<u8>) -> Mem<Vec<u8>> {
+fn answer_to(rt: &HostRuntime, alloc: Global, row: Row, bytes: Vec<u8>) -> Mem<Vec<u8>> {
     if row.words == REPRINT {
         return reprint(alloc, &bytes);
     }
     let words = words(alloc, row.words)?;
-    answer(alloc, &words, bytes)
+    answer(rt, alloc, &words, bytes)
 }
 
 /// Tells a text that is answered otherwise. What the sink can't take is lost, and the count tells all the same.
@@ -194,9 +194,9 @@ fn tell<K: Sink>(sink: &mut K, row: Row, wanted: &[u8], answered: &[u8]) {
 }
 
 /// Whether the answer is the one wanted; another is told.
-fn is_as_wanted<K: Sink>(alloc: Global, row: Row, sink: &mut K) -> Mem<bool> {
+fn is_as_wanted<K: Sink>(rt: &HostRuntime, alloc: Global, row: Row, sink: &mut K) -> Mem<bool> {
     let (bytes, wanted) = case(alloc, row)?;
-    let answered = answer_to(alloc, row, bytes)?;
+    let answered = answer_to(rt, alloc, row, bytes)?;
     if answered.as_slice() == wanted.as_slice() {
         return Ok(true);
     }
@@ -205,7 +205,7 @@ fn is_as_wanted<K: Sink>(alloc: Global, row: Row, sink: &mut K) -> Mem<bool> {
 }
 
 /// How many rows there are, and how many of them are answered otherwise.
-fn count<K: Sink>(alloc: Global, table: &[u8], sink: &mut K) -> Mem<(u64, u64)> {
+fn count<K: Sink>(rt: &HostRuntime, alloc: Global, table: &[u8], sink: &mut K) -> Mem<(u64, u64)> {
     let mut rest = table.strip_prefix(HEAD).unwrap_or(b"");
     let (mut rows, mut others): (u64, u64) = (0, 0);
     // A row takes a byte at least.
@@ -214,7 +214,7 @@ fn count<K: Sink>(alloc: Global, table: &[u8], sink: &mut K) -> Mem<(u64, u64)> 
             break;
         };
         rows = rows.saturating_add(1);
-        if !is_as_wanted(alloc, row, sink)? {
+        if !is_as_wanted(rt, alloc, row, sink)? {
             others = others.saturating_add(1);
         }
         if behind.starts_with(END) {
@@ -225,8 +225,8 @@ fn count<K: Sink>(alloc: Global, table: &[u8], sink: &mut K) -> Mem<(u64, u64)> 
     Ok((rows, others))
 }
 
-fn run<K: Sink>(alloc: Global, table: &[u8], sink: &mut K) -> Mem<u8> {
-    let (rows, others) = count(alloc, table, sink)?;
+fn run<K: Sink>(rt: &HostRuntime, alloc: Global, table: &[u8], sink: &mut K) -> Mem<u8> {
+    let (rows, others) = count(rt, alloc, table, sink)?;
     let line = format!(in alloc; "{rows} rows, {others} answered otherwise\n")?;
     let _ = write_all(sink, line.as_bytes());
     Ok(if others == 0 { 0 } else { 1 })
@@ -239,5 +239,5 @@ fn main(rt: HostRuntime) -> ExitCode {
     let Ok(table) = read_all(alloc, &mut source, MOST_BYTES) else {
         return ExitCode::from(5);
     };
-    ExitCode::from(run(alloc, &table, &mut sink).unwrap_or(7))
+    ExitCode::from(run(&rt, alloc, &table, &mut sink).unwrap_or(7))
 }

@@ -13,7 +13,7 @@ use Rattle.sc_top.specs.Runs.{spelled_problem}
 use Rattle.sc_top.specs.declared.answer.Modelled.{Modelled}
 use Rattle.sc_top.specs.declared.answer.Modelled.TheVariants as modelled
 use Rattle.sc_top.specs.declared.answer.Answer.{Answer}
-use Rattle.sc_top.specs.declared.answer.Answer.TheVariants.{ProofChecked, NotAProof, Ran, Model, InputRefused, WordsRefused, ReadFault, OutOfMemory}
+use Rattle.sc_top.specs.declared.answer.Answer.TheVariants.{ProofChecked, NotAProof, Ran, Model, Benched, InputRefused, WordsRefused, ReadFault, OutOfMemory}
 
 -- the tables are the first model of the problem's clauses, which are true in them, and the text is that of the tables
 pub record HasModelText (problem : Stated) (size : ℕ) (text : List ℕ) : Type 0 where
@@ -67,6 +67,7 @@ IsModelAnswer size nodes bytes (ProofChecked n) = ⊥
 IsModelAnswer size nodes bytes (NotAProof k) = ⊥
 IsModelAnswer size nodes bytes (Ran o text) = ⊥
 IsModelAnswer size nodes bytes (Model m) = HasModelled size nodes m bytes
+IsModelAnswer size nodes bytes (Benched run) = ⊥
 IsModelAnswer size nodes bytes (InputRefused p) = spelled_problem bytes ≡ Err p
 IsModelAnswer size nodes bytes WordsRefused = ⊥
 IsModelAnswer size nodes bytes ReadFault = ⊥

@@ -7,27 +7,38 @@ use Rattle.sc_base.specs.Taken.{Grows, GrowsByPart}
 use Rattle.sc_top_words.specs.declared.commands.Command.{Command}
 use Rattle.sc_top_words.specs.declared.commands.Command.TheVariants as command
 use Rattle.sc_top.specs.declared.answer.Answer.{Answer}
-use Rattle.sc_top.specs.declared.answer.Answer.TheVariants.{ProofChecked, NotAProof, Ran, Model, InputRefused, WordsRefused, ReadFault, OutOfMemory}
+use Rattle.sc_top.specs.declared.answer.Answer.TheVariants.{ProofChecked, NotAProof, Ran, Model, Benched, InputRefused, WordsRefused, ReadFault, OutOfMemory}
 use Rattle.sc_top_words.specs.Words.{Asks}
 use Rattle.sc_top.specs.Answers.{status_of, text_of, IsAnswerTo}
 use Rattle.sc_top.specs.Runs.{IsProveAnswer, SpellNeverSpent}
 use Rattle.sc_top.specs.Models.{IsModelAnswer}
+use Rattle.sc_top.specs.Ladder.{ladder, bench_plan, IsBenchAnswer}
 
--- an answer to the bytes, for the command
+-- an answer to the bytes, for the command; `bench` has the same ones whatever they are
 abbrev pub IsAnswerBy : Command → List ℕ → Answer → Type 0
 IsAnswerBy command.Check bytes a = IsAnswerTo bytes a
 IsAnswerBy (command.Prove plan) bytes a = IsProveAnswer plan bytes a
-IsAnswerBy (command.Model size nodes) bytes a = IsModelAnswer size nodes bytes a
+IsAnswerBy (command.Model size nodes workers) bytes a = IsModelAnswer size nodes bytes a
+IsAnswerBy (command.Bench rungs) bytes a = IsBenchAnswer rungs a
 
--- the bytes decide one answer for the command; a search for a model may be given up where its budget is spent
+-- an answer to the source's bytes, for the command, where it tells them; to `bench`, whether it tells them or not
+abbrev pub AnswersBy : Command → Option (List ℕ) → Answer → Type 0
+AnswersBy command.Check told a = IfSome told (λ bytes. IsAnswerTo bytes a)
+AnswersBy (command.Prove plan) told a = IfSome told (λ bytes. IsProveAnswer plan bytes a)
+AnswersBy (command.Model size nodes workers) told a = IfSome told (λ bytes. IsModelAnswer size nodes bytes a)
+AnswersBy (command.Bench rungs) told a = IsBenchAnswer rungs a
+
+-- the bytes decide one answer for the command; a search for a model may be given up where its budget is spent, and where
+-- finders run beside the prover the answer depends on when it looks
 abbrev pub IsDecisive : Command → List ℕ → Type 0
 IsDecisive command.Check bytes = ⊤
-IsDecisive (command.Prove plan) bytes = SpellNeverSpent plan bytes
-IsDecisive (command.Model size nodes) bytes = ⊥
+IsDecisive (command.Prove plan) bytes = (plan.finders ≡ 0) × SpellNeverSpent plan bytes
+IsDecisive (command.Model size nodes workers) bytes = ⊥
+IsDecisive (command.Bench rungs) bytes = SpellNeverSpent bench_plan (ladder rungs)
 
--- the words ask for a command, and the answer is one to the bytes
-abbrev pub IsAnswerFor : List (String Global) → List ℕ → Answer → Type 0
-IsAnswerFor words bytes a = (command : Command) × Asks words command × IsAnswerBy command bytes a
+-- the words ask for a command, and the answer is one to the source's bytes, where it tells them
+abbrev pub AnswersFor : List (String Global) → Option (List ℕ) → Answer → Type 0
+AnswersFor words told a = (command : Command) × Asks words command × AnswersBy command told a
 
 -- the words ask for no command
 abbrev pub AskForNone : List (String Global) → Type 0
@@ -38,22 +49,42 @@ abbrev pub StandsBy : Command → Option (List ℕ) → ℕ → ℕ → Answer �
 StandsBy command told before now WordsRefused = ⊥
 StandsBy command told before now ReadFault = Rose before now
 StandsBy command told before now OutOfMemory = ⊤
-StandsBy command told before now (ProofChecked n) = IfSome told (λ bytes. IsAnswerBy command bytes (ProofChecked n))
-StandsBy command told before now (NotAProof k) = IfSome told (λ bytes. IsAnswerBy command bytes (NotAProof k))
-StandsBy command told before now (Ran o text) = IfSome told (λ bytes. IsAnswerBy command bytes (Ran o text))
-StandsBy command told before now (Model m) = IfSome told (λ bytes. IsAnswerBy command bytes (Model m))
-StandsBy command told before now (InputRefused p) = IfSome told (λ bytes. IsAnswerBy command bytes (InputRefused p))
+StandsBy command told before now (ProofChecked n) = AnswersBy command told (ProofChecked n)
+StandsBy command told before now (NotAProof k) = AnswersBy command told (NotAProof k)
+StandsBy command told before now (Ran o text) = AnswersBy command told (Ran o text)
+StandsBy command told before now (Model m) = AnswersBy command told (Model m)
+StandsBy command told before now (Benched run) = AnswersBy command told (Benched run)
+StandsBy command told before now (InputRefused p) = AnswersBy command told (InputRefused p)
 
 -- the same, by the words, the source's bytes, where it tells them, and its counts of faults before and after
 abbrev pub Stands : List (String Global) → Option (List ℕ) → ℕ → ℕ → Answer → Type 0
 Stands words told before now WordsRefused = AskForNone words
 Stands words told before now ReadFault = Rose before now
 Stands words told before now OutOfMemory = ⊤
-Stands words told before now (ProofChecked n) = IfSome told (λ bytes. IsAnswerFor words bytes (ProofChecked n))
-Stands words told before now (NotAProof k) = IfSome told (λ bytes. IsAnswerFor words bytes (NotAProof k))
-Stands words told before now (Ran o text) = IfSome told (λ bytes. IsAnswerFor words bytes (Ran o text))
-Stands words told before now (Model m) = IfSome told (λ bytes. IsAnswerFor words bytes (Model m))
-Stands words told before now (InputRefused p) = IfSome told (λ bytes. IsAnswerFor words bytes (InputRefused p))
+Stands words told before now (ProofChecked n) = AnswersFor words told (ProofChecked n)
+Stands words told before now (NotAProof k) = AnswersFor words told (NotAProof k)
+Stands words told before now (Ran o text) = AnswersFor words told (Ran o text)
+Stands words told before now (Model m) = AnswersFor words told (Model m)
+Stands words told before now (Benched run) = AnswersFor words told (Benched run)
+Stands words told before now (InputRefused p) = AnswersFor words told (InputRefused p)
+
+-- the command asks for no finder beside the prover
+abbrev pub IsAlone : Command → Type 0
+IsAlone command.Check = ⊤
+IsAlone (command.Prove plan) = plan.finders ≡ 0
+IsAlone (command.Model size nodes workers) = ⊤
+IsAlone (command.Bench rungs) = ⊤
+
+-- the command asks for nothing of the source
+abbrev pub ReadsNothing : Command → Type 0
+ReadsNothing command.Check = ⊥
+ReadsNothing (command.Prove plan) = ⊥
+ReadsNothing (command.Model size nodes workers) = ⊥
+ReadsNothing (command.Bench rungs) = ⊤
+
+-- 0, 1 or 2 as the answer is good, bad or given up, 3 where the input is refused, or 7 where memory was wanting
+abbrev pub IsStatusOfAnswer : ℕ → Type 0
+IsStatusOfAnswer status = (status ≤ 3) ⊎ (status ≡ 7)
 
 -- ---- what is written
 

@@ -1,7 +1,7 @@
 //! What the program answers: each answer has a status and a text.
 
 ghost use Rattle.std.specs.Prelude.{◌≡◌, ◌++◌, IfOk, IfSome, IfNone, codes, decimal, string_bytes};
-ghost use Rattle.sc_top.specs.Answers.{answer_to, outcome_status, modelled_status, modelled_text, status_of, text_of, MakesModelledText, MakesText, kind_text};
+ghost use Rattle.sc_top.specs.Answers.{answer_to, outcome_status, outcome_word, bench_text, modelled_status, modelled_text, status_of, text_of, MakesModelledText, MakesText, kind_text};
 
 use sc_core_rules::Outcome;
 use sc_input::{InputError, InputKind, Place};
@@ -23,6 +23,20 @@ pub enum Modelled {
     TooManyInstances { count: u64 },
 }
 
+/// How the run of a ladder ended.
+#[derive(Debug, Drop)]
+pub struct BenchRun {
+    pub rungs: u32,
+    pub outcome: Outcome,
+    /// How many clauses were given, and how many kept.
+    pub given: u64,
+    pub kept: u64,
+    /// How many versions the finder published.
+    pub versions: u64,
+    /// How many lines the proof has.
+    pub lines: u64,
+}
+
 /// An answer, before it is written.
 #[derive(Debug, Drop)]
 pub enum Answer {
@@ -34,6 +48,8 @@ pub enum Answer {
     Ran { outcome: Outcome, text: List<u8> },
     /// A model was sought.
     Model(Modelled),
+    /// The run of a ladder ended so.
+    Benched(BenchRun),
     /// The bytes are refused at this one, for this kind of fault.
     InputRefused(Place),
     WordsRefused,
@@ -130,6 +146,32 @@ fn modelled_text(alloc: Global, modelled: &Modelled) -> Mem<String>
     })
 }
 
+/// How a run ended, without a number.
+fn outcome_word(outcome: Outcome) -> &'static str
+    ensures { result.now ≡ outcome_word outcome }
+{
+    match outcome {
+        Outcome::Proof => "proof",
+        Outcome::SosEmpty => "sos_empty",
+        Outcome::GivenLimit(_) => "given_limit",
+        Outcome::KeptLimit(_) => "kept_limit",
+        Outcome::WorkLimit(_) => "work_limit",
+    }
+}
+
+/// The text of the run of a ladder.
+fn bench_text(alloc: Global, run: &BenchRun) -> Mem<String>
+    ensures { IfOk result (λ text. string_bytes text ≡ bench_text run.now) }
+{
+    let rungs = run.rungs;
+    let word = outcome_word(run.outcome);
+    let given = run.given;
+    let kept = run.kept;
+    let versions = run.versions;
+    let lines = run.lines;
+    Ok(format!(in alloc; "bench {rungs}: {word}, given {given}, kept {kept}, versions {versions}, lines {lines}\n")?)
+}
+
 /// The answer where an input isn't read.
 pub fn refusal(error: InputError) -> Answer
     ensures { result ≡ answer_to error }
@@ -150,6 +192,7 @@ impl Answer {
             Answer::NotAProof { .. } => 1,
             Answer::Ran { outcome, .. } => outcome_status(*outcome),
             Answer::Model(modelled) => modelled_status(modelled),
+            Answer::Benched(run) => outcome_status(run.outcome),
             Answer::InputRefused(_) => 3,
             Answer::WordsRefused => 4,
             Answer::ReadFault => 5,
@@ -167,6 +210,7 @@ impl Answer {
             Answer::NotAProof { .. } => None,
             Answer::Ran { text, .. } => Some(text.as_slice()),
             Answer::Model(modelled) => found_text(modelled),
+            Answer::Benched(_) => None,
             Answer::InputRefused(_) => None,
             Answer::WordsRefused => Some(WORDS_TEXT.as_bytes()),
             Answer::ReadFault => Some(READ_FAULT_TEXT.as_bytes()),
@@ -183,6 +227,7 @@ impl Answer {
             Answer::ProofChecked { lines } => format!(in alloc; "proof checked: {lines} lines\n")?,
             Answer::NotAProof { line } => format!(in alloc; "not a proof: line {line}\n")?,
             Answer::Model(modelled) => modelled_text(alloc, modelled)?,
+            Answer::Benched(run) => bench_text(alloc, run)?,
             Answer::InputRefused(place) => refused_text(alloc, place.at, kind_text(place.kind))?,
             Answer::Ran { .. } => unreachable!(),
             Answer::WordsRefused => unreachable!(),

@@ -1,1 +1,4 @@
+pub mod Options
 pub mod Words
+pub mod Taking
+pub mod Reading
