@@ -11,6 +11,10 @@ SECONDS = 120
 # what stands for a program that had not ended by then
 NO_END = "no end after %d seconds" % SECONDS
 
+# the status of refused words; standard error then gets what is wrong with them, behind the program's name
+WORDS_REFUSED = 4
+NAMED = b"scott: "
+
 
 class Case(NamedTuple):
     """A call of the program and what is wanted of it."""
@@ -65,7 +69,7 @@ def fault(case, told):
         return "%s: status %s, wanted %s" % (case.name, status, case.status)
     if text != case.wanted:
         return "%s: %s" % (case.name, difference(case.wanted, text))
-    if complaint:
+    if complaint and not (status == WORDS_REFUSED and complaint.startswith(NAMED)):
         return "%s: standard error isn't empty: %r" % (case.name, shortened(complaint))
     return None
 

@@ -1,12 +1,13 @@
 """Words that the program refuses, and streams that fail: statuses 4, 5 and 6 where a caller can make them."""
 import os
 
-from calls import Case, answer, fault, run
+from calls import NAMED, Case, answer, fault, run
 
 # commands that no version takes: a name that isn't one, a word too many, a number outside of its range or not plainly written
 REFUSED = [
     [],
     [""],
+    ["--help"],
     ["chek"],
     ["CHECK"],
     ["check "],
@@ -35,15 +36,24 @@ PROBLEM = b"list(sos). p(a). -p(x) | q(x). -q(a). end_of_list.\nproof.\n1 input 
 
 ANSWER = b"not a proof: line 2\n"
 
+# what begins the shapes of words
+USAGE = b"\nusage: scott "
+
 
 def words_refused(program):
-    """Status 4 for words that aren't a command's; nothing is read then, as the place in a file given as standard input tells."""
+    """Status 4 for words that aren't a command's, whose shapes standard error gets; nothing is read then, as the place in a
+    file given as standard input tells."""
     passed, found = 0, []
     for words in REFUSED:
         case = Case("the words %r" % (words,), words, PROBLEM, 4, b"words refused\n")
-        why = fault(case, answer(program, words, PROBLEM)) or left_unread(program, case)
+        told = answer(program, words, PROBLEM)
+        why = fault(case, told) or usage_untold(case, told[2]) or left_unread(program, case)
         passed, found = passed + (why is None), found + ([why] if why else [])
     return passed, found
+
+
+def usage_untold(case, complaint):
+    return None if complaint.startswith(NAMED) and USAGE in complaint else "%s: standard error hasn't the shapes of words" % case.name
 
 
 def left_unread(program, case):
@@ -62,6 +72,8 @@ FAILING = [
     ("standard output on a full disk", '"$0" check >/dev/full', 6, b""),
     ("standard output that is open for reading alone", '"$0" check 1</dev/null', 6, b""),
     ("refused words, and standard output on a full disk", '"$0" chek >/dev/full', 6, b""),
+    ("refused words, and standard error that is closed", '"$0" chek 2>&-', 4, b"words refused\n"),
+    ("refused words, and standard error on a full disk", '"$0" chek 2>/dev/full', 4, b"words refused\n"),
     ("both closed", '"$0" check <&- >&-', 6, b""),
     ("standard error that is closed", '"$0" check 2>&-', 1, ANSWER),
 ]

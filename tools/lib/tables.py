@@ -12,8 +12,8 @@ HEAD = b"== "
 MARK = b"@"
 REFUSED = 3
 
-# a word of the table alone, which the program hasn't
-OWN_WORD = "reprint"
+# first words of the table alone, which the program hasn't
+OWN_WORDS = ("reprint", "gated")
 
 
 def parts(table):
@@ -34,14 +34,14 @@ def row(asked, told):
     if int(status) == REFUSED:
         front, _, behind = text.partition(MARK)
         text, wanted = front + behind, b"input refused at byte %d: %s" % (len(front), wanted)
-    return Case(remark.decode(), words.decode().split(" "), text, int(status), wanted + b"\n")
+    return Case(remark.decode(), words.decode().split(" ") if words else [], text, int(status), wanted + b"\n")
 
 
 def cases_of(table):
-    """The cases of a table, but for those of the word that is the table's own."""
+    """The cases of a table, but for those whose first word is the table's own."""
     found = parts(table)
     rows = [row(*pair) for pair in zip(found[::2], found[1::2])]
-    return [it for it in rows if it.words[0] != OWN_WORD]
+    return [it for it in rows if not it.words or it.words[0] not in OWN_WORDS]
 
 
 def read(path):

@@ -17,16 +17,25 @@
 //!
 //! The word `reprint` is of this table alone: it reads a problem, and behind it a run text where the word `run` follows, else
 //! a proof section, and prints what it has read of that again.
+//!
+//! Where the first word is `gated`, which is of this table alone too, the words behind it are the program's. The row runs
+//! twenty times, each with a gate that holds the prover and two finders at their points (`waits.rt`), so that each turn sees
+//! what the row tells. All other rows run with a gate that is open.
 #![tactic(auto)]
+
+mod waits;
 
 use sc_base::{Sink, SoundSink, SoundSource, StdSink, StdSource, read_all, write_all};
 use sc_input::{InputError, read_items};
 use sc_term::{Mem, OutOfMemory};
 use sc_text::{print_proof, print_run, read_proof, read_run};
-use sc_top::{Answer, Open, scott_over_sound};
+use sc_top::{Answer, Gate, Open, scott_over_sound};
 use std::alloc::Global;
 use std::io;
 use std::process::ExitCode;
+use std::sync::Wait;
+use std::thread::Threads;
+use waits::Gated;
 
 const MOST_BYTES: u64 = 1_000_000;
 
@@ -45,6 +54,12 @@ const END: &[u8] = b"end";
 const BEHIND_WORDS: &[u8] = b" : ";
 
 const REPRINT: &[u8] = b"reprint";
+
+/// What stands before the program's words where a row runs with the gate.
+const GATED: &[u8] = b"gated ";
+
+/// How often such a row runs: threads may take turns otherwise from run to run.
+const RUNS: u32 = 20;
 
 /// The status of a text that is refused.
 const REFUSED: &[u8] = b"3";
@@ -163,10 +178,17 @@ fn reprint(alloc: Global, bytes: &[u8]) -> Mem<Vec<u8>> {
 }
 
 /// The status and the answer of the program.
-fn answer(rt: &HostRuntime, alloc: Global, words: &[String], bytes: Vec<u8>) -> Mem<Vec<u8>> {
-    let mut source = SoundSource::new(bytes);
+fn answer<R: Threads + Wait + Sync, G: Gate>(
+    rt: &R,
+    alloc: Global,
+    line: &[u8],
+    bytes: &[u8],
+    gate: &G,
+) -> Mem<Vec<u8>> {
+    let words = words(alloc, line)?;
+    let mut source = SoundSource::new(Vec::from_slice(alloc, bytes)?);
     let mut sink = SoundSink::new(alloc, MOST_ANSWER)?;
-    let status = scott_over_sound(rt, alloc, words, &mut source, &mut sink, &Open);
+    let status = scott_over_sound(rt, alloc, &words, &mut source, &mut sink, gate);
     told(
         alloc,
         format!(in alloc; "{status}")?.as_bytes(),
@@ -174,12 +196,19 @@ fn answer(rt: &HostRuntime, alloc: Global, words: &[String], bytes: Vec<u8>) -> 
     )
 }
 
-fn answer_to(rt: &HostRuntime, alloc: Global, row: Row, bytes: Vec<u8>) -> Mem<Vec<u8>> {
+fn answer_to<R: Threads + Wait + Sync>(
+    rt: &R,
+    alloc: Global,
+    row: Row,
+    bytes: &[u8],
+) -> Mem<Vec<u8>> {
     if row.words == REPRINT {
-        return reprint(alloc, &bytes);
+        return reprint(alloc, bytes);
     }
-    let words = words(alloc, row.words)?;
-    answer(rt, alloc, &words, bytes)
+    match row.words.strip_prefix(GATED) {
+        Some(words) => answer(rt, alloc, words, bytes, &Gated::new()),
+        None => answer(rt, alloc, row.words, bytes, &Open),
+    }
 }
 
 /// Tells a text that is answered otherwise. What the sink can't take is lost, and the count tells all the same.
@@ -193,19 +222,36 @@ fn tell<K: Sink>(sink: &mut K, row: Row, wanted: &[u8], answered: &[u8]) {
     let _ = write_all(sink, answered);
 }
 
-/// Whether the answer is the one wanted; another is told.
-fn is_as_wanted<K: Sink>(rt: &HostRuntime, alloc: Global, row: Row, sink: &mut K) -> Mem<bool> {
+/// Whether each answer is the one wanted; the first other is told.
+fn is_as_wanted<R: Threads + Wait + Sync, K: Sink>(
+    rt: &R,
+    alloc: Global,
+    row: Row,
+    sink: &mut K,
+) -> Mem<bool> {
     let (bytes, wanted) = case(alloc, row)?;
-    let answered = answer_to(rt, alloc, row, bytes)?;
-    if answered.as_slice() == wanted.as_slice() {
-        return Ok(true);
+    let runs = if row.words.starts_with(GATED) {
+        RUNS
+    } else {
+        1
+    };
+    for _ in 0..runs {
+        let answered = answer_to(rt, alloc, row, &bytes)?;
+        if answered.as_slice() != wanted.as_slice() {
+            tell(sink, row, &wanted, &answered);
+            return Ok(false);
+        }
     }
-    tell(sink, row, &wanted, &answered);
-    Ok(false)
+    Ok(true)
 }
 
 /// How many rows there are, and how many of them are answered otherwise.
-fn count<K: Sink>(rt: &HostRuntime, alloc: Global, table: &[u8], sink: &mut K) -> Mem<(u64, u64)> {
+fn count<R: Threads + Wait + Sync, K: Sink>(
+    rt: &R,
+    alloc: Global,
+    table: &[u8],
+    sink: &mut K,
+) -> Mem<(u64, u64)> {
     let mut rest = table.strip_prefix(HEAD).unwrap_or(b"");
     let (mut rows, mut others): (u64, u64) = (0, 0);
     // A row takes a byte at least.
@@ -225,7 +271,12 @@ fn count<K: Sink>(rt: &HostRuntime, alloc: Global, table: &[u8], sink: &mut K) -
     Ok((rows, others))
 }
 
-fn run<K: Sink>(rt: &HostRuntime, alloc: Global, table: &[u8], sink: &mut K) -> Mem<u8> {
+fn run<R: Threads + Wait + Sync, K: Sink>(
+    rt: &R,
+    alloc: Global,
+    table: &[u8],
+    sink: &mut K,
+) -> Mem<u8> {
     let (rows, others) = count(rt, alloc, table, sink)?;
     let line = format!(in alloc; "{rows} rows, {others} answered otherwise\n")?;
     let _ = write_all(sink, line.as_bytes());
