@@ -122,6 +122,18 @@ impl Prover {
         Ok(())
     }
 
+    /// The version itself joins those of that finder, as a copy does by `add`. Where memory is wanting, nothing changes.
+    pub fn receive(&mut self, finder: u32, version: Version) -> Mem<()>
+        requires some { 1 ≤ finder }
+        requires there { finder ≤ length self.old.seen }
+        requires few { IsSomeAnd (numbered self.old.seen finder) (λ versions. length versions < 2 ^ 31) }
+        ensures added { OnOk result (self.new ≡ record self.old { seen = grown self.old.seen finder version }) }
+        ensures refused { OnErr result (self.new ≡ self.old) }
+    {
+        self.guide.receive(finder, version)?;
+        Ok(())
+    }
+
     /// One turn with the versions that are seen (`Turns`). The prover has to be whole, and the run not ended.
     pub fn turn(&mut self) -> Mem<TurnEnd>
         requires whole { self.old.whole ≡ true }
@@ -207,6 +219,20 @@ impl Prover {
         ensures { result.now ≡ self.now.seen }
     {
         self.guide.seen()
+    }
+
+    /// The versions of each finder that are seen, in order, and nothing else.
+    pub fn into_seen(self) -> List<List<Version>>
+        ensures { result ≡ self.seen }
+    {
+        let Prover {
+            alloc: _,
+            guide,
+            marks: _,
+            running: _,
+            whole: _,
+        } = self;
+        guide.into_seen()
     }
 
     /// The name of the guide of what is seen, under which the next turn chooses: (0, 0) where no version is seen. It is

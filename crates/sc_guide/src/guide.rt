@@ -148,15 +148,28 @@ impl Guide {
         ensures refused { OnErr result (self.new ≡ self.old) }
     {
         let copied = version.copy(alloc)?;
+        self.receive(finder, copied)?;
+        Ok(())
+    }
+
+    /// The version itself joins the end of the list of that finder, from 1. Where memory is wanting, nothing changes.
+    pub fn receive(&mut self, finder: u32, version: Version) -> Mem<()>
+        requires some { 1 ≤ finder }
+        requires there { finder ≤ length self.old.seen }
+        requires few { IsSomeAnd (numbered self.old.seen finder) (λ versions. length versions < 2 ^ 31) }
+        ensures seen { OnOk result (self.new.seen ≡ grown self.old.seen finder version) }
+        ensures opening { self.new.opening_version ≡ self.old.opening_version }
+        ensures refused { OnErr result (self.new ≡ self.old) }
+    {
         let place = self.lists[finder as usize - 1].len() as u32;
         let name = next_name(
             &self.opening,
             self.lists.as_slice(),
             self.name,
             VersionName { finder, place },
-            version,
+            &version,
         );
-        push(self.lists.as_mut_slice(), finder, copied)?;
+        push(self.lists.as_mut_slice(), finder, version)?;
         self.name = name;
         Ok(())
     }
@@ -182,6 +195,18 @@ impl Guide {
         ensures { result.now ≡ self.now.seen }
     {
         self.lists.as_slice()
+    }
+
+    /// The versions of each finder that are seen, in order, and nothing else.
+    pub fn into_seen(self) -> List<List<Version>>
+        ensures { result ≡ self.seen }
+    {
+        let Guide {
+            opening: _,
+            lists,
+            name: _,
+        } = self;
+        List::from_vec(lists)
     }
 
     /// How many versions of each finder are seen.

@@ -13,7 +13,7 @@ use Rattle.sc_text_rules.specs.ProofReading.{proof_of}
 use Rattle.sc_steps.proofs.ModelLaws.{not_all_true}
 use Rattle.sc_top.specs.NoModel.{HasNoModel}
 use Rattle.sc_top.specs.declared.answer.Answer.{Answer}
-use Rattle.sc_top.specs.declared.answer.Answer.TheVariants.{ProofChecked, NotAProof, Ran, Model, InputRefused, WordsRefused, ReadFault, OutOfMemory}
+use Rattle.sc_top.specs.declared.answer.Answer.TheVariants.{ProofChecked, NotAProof, Ran, Model, Benched, InputRefused, WordsRefused, ReadFault, OutOfMemory}
 use Rattle.sc_top.specs.Answers.{most_bytes, section_behind, spelled_by_few, spelled, HasProof, HasFault, IsAnswerTo}
 
 -- refuted clauses have no model over whole numbers
@@ -128,6 +128,7 @@ one_answer bytes (InputRefused p) (InputRefused q) h k =
     ap InputRefused (ap (λ (r : Result (StatedItems × List Line) Place). elim r [ Ok v ↦ p | Err q ↦ q ]) same)
 one_answer bytes (Ran o text) b h k = absurd h
 one_answer bytes (Model m) b h k = absurd h
+one_answer bytes (Benched run) b h k = absurd h
 one_answer bytes (ProofChecked m) (Ran o text) h k = absurd k
 one_answer bytes (ProofChecked m) (Model n) h k = absurd k
 one_answer bytes (NotAProof m) (Ran o text) h k = absurd k
@@ -137,12 +138,15 @@ one_answer bytes (InputRefused p) (Model n) h k = absurd k
 one_answer bytes WordsRefused b h k = absurd h
 one_answer bytes ReadFault b h k = absurd h
 one_answer bytes OutOfMemory b h k = absurd h
+one_answer bytes (ProofChecked m) (Benched run) h k = absurd k
 one_answer bytes (ProofChecked m) WordsRefused h k = absurd k
 one_answer bytes (ProofChecked m) ReadFault h k = absurd k
 one_answer bytes (ProofChecked m) OutOfMemory h k = absurd k
+one_answer bytes (NotAProof m) (Benched run) h k = absurd k
 one_answer bytes (NotAProof m) WordsRefused h k = absurd k
 one_answer bytes (NotAProof m) ReadFault h k = absurd k
 one_answer bytes (NotAProof m) OutOfMemory h k = absurd k
+one_answer bytes (InputRefused p) (Benched run) h k = absurd k
 one_answer bytes (InputRefused p) WordsRefused h k = absurd k
 one_answer bytes (InputRefused p) ReadFault h k = absurd k
 one_answer bytes (InputRefused p) OutOfMemory h k = absurd k

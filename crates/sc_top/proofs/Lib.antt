@@ -1,4 +1,5 @@
 pub mod AnswerLaws
 pub mod ProveLaws
 pub mod ModelAnswers
+pub mod BenchLaws
 pub mod ToldLaws

@@ -1,6 +1,6 @@
 -- The ladder of so many rungs: its text, and the answer to a run of it.
 use Rattle.std.specs.Prelude.{◌≡◌, ℕ, ◌+◌, List, [], ◌++◌, Ok, Err, length, get_or, codes, decimal}
-use Rattle.std.specs.List.{flat_map, range_with_len}
+use Rattle.sc_cells.specs.Listing.{in_turn}
 use Rattle.sc_input_rules.specs.Problem.{Stated}
 use Rattle.sc_core_rules.specs.declared.row.Outcome.TheVariants.{Proof}
 use Rattle.sc_text_run_rules.specs.RunValue.{RunValue}
@@ -25,7 +25,7 @@ end_of n = codes "-p" ++ decimal n ++ codes "(a).\nend_of_list.\nlist(sos).\np0(
 
 -- the rungs from 0 on, and then the end
 abbrev pub ladder : ℕ → List ℕ
-ladder rungs = codes "set(binary_res).\nlist(usable).\n" ++ flat_map rung (range_with_len 0 rungs) ++ end_of rungs
+ladder rungs = codes "set(binary_res).\nlist(usable).\n" ++ in_turn rung rungs ++ end_of rungs
 
 -- ---- the answer
 
@@ -42,7 +42,7 @@ pub record HasBench (rungs : ℕ) (told : BenchRun) : Type 0 where
   pub versions : Seen
   pub run : RunValue
   pub recorded : IsRecord problem bench_plan versions run
-  pub rungs : told.rungs ≡ rungs
+  pub of_rungs : told.rungs ≡ rungs
   pub ended : told.outcome ≡ run.outcome
   pub given : told.given ≡ length run.given
   pub kept : told.kept ≡ length run.kept

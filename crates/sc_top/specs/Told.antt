@@ -12,7 +12,7 @@ use Rattle.sc_top_words.specs.Words.{Asks}
 use Rattle.sc_top.specs.Answers.{status_of, text_of, IsAnswerTo}
 use Rattle.sc_top.specs.Runs.{IsProveAnswer, SpellNeverSpent}
 use Rattle.sc_top.specs.Models.{IsModelAnswer}
-use Rattle.sc_top.specs.Ladder.{IsBenchAnswer}
+use Rattle.sc_top.specs.Ladder.{ladder, bench_plan, IsBenchAnswer}
 
 -- an answer to the bytes, for the command; `bench` has the same ones whatever they are
 abbrev pub IsAnswerBy : Command → List ℕ → Answer → Type 0
@@ -34,7 +34,7 @@ abbrev pub IsDecisive : Command → List ℕ → Type 0
 IsDecisive command.Check bytes = ⊤
 IsDecisive (command.Prove plan) bytes = (plan.finders ≡ 0) × SpellNeverSpent plan bytes
 IsDecisive (command.Model size nodes workers) bytes = ⊥
-IsDecisive (command.Bench rungs) bytes = ⊥
+IsDecisive (command.Bench rungs) bytes = SpellNeverSpent bench_plan (ladder rungs)
 
 -- the words ask for a command, and the answer is one to the source's bytes, where it tells them
 abbrev pub AnswersFor : List (String Global) → Option (List ℕ) → Answer → Type 0

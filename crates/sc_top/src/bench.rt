@@ -25,7 +25,7 @@ const PLAN: Plan = Plan {
 /// Adds the rung from predicate i to the next one.
 fn add_rung(alloc: Global, i: u32, text: &mut Vec<u8>) -> Mem<()>
     requires { i < 1000 }
-    ensures { OnOk result (text.new ≡ text.old ++ rung i) }
+    ensures { OnOk result (text.new.items ≡ text.old.items ++ rung i) }
 {
     let next = i + 1;
     let rung = format!(in alloc; "-p{i}(x) | p{next}(x).\n")?;
@@ -35,7 +35,7 @@ fn add_rung(alloc: Global, i: u32, text: &mut Vec<u8>) -> Mem<()>
 
 /// Adds the clause against the last predicate, and the set of support.
 fn add_end(alloc: Global, rungs: u32, text: &mut Vec<u8>) -> Mem<()>
-    ensures { OnOk result (text.new ≡ text.old ++ end_of rungs) }
+    ensures { OnOk result (text.new.items ≡ text.old.items ++ end_of rungs) }
 {
     let end =
         format!(in alloc; "-p{rungs}(a).\nend_of_list.\nlist(sos).\np0(a).\nend_of_list.\n")?;
@@ -46,7 +46,7 @@ fn add_end(alloc: Global, rungs: u32, text: &mut Vec<u8>) -> Mem<()>
 /// The text of the ladder.
 fn ladder(alloc: Global, rungs: u32) -> Mem<Vec<u8>>
     requires { rungs ≤ 1000 }
-    ensures { IfOk result (λ text. text ≡ ladder rungs) }
+    ensures { IfOk result (λ text. text.items ≡ ladder rungs) }
 {
     let mut text = Vec::new(alloc);
     text.extend_from_slice(b"set(binary_res).\nlist(usable).\n")?;

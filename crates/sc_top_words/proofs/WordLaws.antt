@@ -1,99 +1,102 @@
--- So many words, and the one command that they ask for.
-use Rattle.std.proofs.Common.{◌≡◌, ◌∙◌, sym, ap, refl, inl, inr, ◌≤◌, ℕ, List, [], ◌∷◌, length, arith}
-use Rattle.std.specs.Prelude.{◌≢◌, Option, Some, None, MatchOption, String, string_bytes, codes}
+-- The words ask for one command at most, and what they don't ask for, by what was taken of them.
+use Rattle.std.proofs.Common.{◌≡◌, ◌∙◌, sym, ap, refl, subst, ℕ, List, ◌∷◌, arith}
+use Rattle.std.specs.Prelude.{Some, String, codes}
 use Rattle.std.specs.declared.alloc.Global.{Global}
-use lib.ListN.{get_or}
-use Rattle.std.proofs.lemmas.Slice.Zip.{AllZip-long}
+use Rattle.std.specs.Str.Parse.{digits_value}
 use Rattle.sc_worker.specs.declared.plan.Plan.{Plan}
 use Rattle.sc_top_words.specs.declared.commands.Command.{Command}
-use Rattle.sc_top_words.specs.declared.commands.Command.TheVariants.{Check, Prove, Model}
-use Rattle.sc_top_words.specs.Words.{AreWords, IsCheck, IsProve, IsProveWithoutModels, AskForProof, IsValue, AskForBudget, AskForSize, AskForModel, Asks}
-
-pub as_many : (texts : List (List ℕ)) (words : List (String Global)) → AreWords texts words → length words ≡ length texts
-as_many texts words h = sym (AllZip-long (λ (word : String Global) (text : List ℕ). string_bytes word ≡ text) words texts h)
+use Rattle.sc_top_words.specs.declared.commands.Command.TheVariants.{Check, Prove, Model, Bench}
+use Rattle.sc_top_words.specs.declared.options.OptionName.{OptionName}
+use Rattle.sc_top_words.specs.declared.options.OptionName.TheVariants.{Finders, Size, Nodes, Candidates, Workers}
+use Rattle.sc_top_words.specs.declared.taking.Taken.{Taken}
+use Rattle.sc_top_words.specs.Options.{Given, row_of, values_of, IsChoice}
+use Rattle.sc_top_words.specs.Words.{word_of, AskForPlan, AskForModel, AskForRungs, AskFor, Asks}
+use Rattle.sc_top_words.specs.Taking.{AreTaken, FitValues, AreFit}
+use Rattle.sc_top_words.specs.Reading.{IsAskedBy}
+use Rattle.sc_top_words.proofs.OptionLaws.{first_of, first_word, other_words, options_are_one, chosen_fits, none_fits, chosen_is_one, is_given}
 
 -- ---- one command
 
-check_or_prove : (words : List (String Global)) (plan : Plan) → IsCheck words → AskForProof words plan → ⊥
-check_or_prove words plan h (inl k) = let one : length words ≡ 1 = as_many _ words h in let three : length words ≡ 3 = as_many _ words k.0 in omega (arith, one, three)
-check_or_prove words plan h (inr k) = let one : length words ≡ 1 = as_many _ words h in let five : length words ≡ 5 = as_many _ words k.0 in omega (arith, one, five)
+choice_is_one : (name : OptionName) (os ps : List Given) (m n : ℕ) → os ≡ ps → IsChoice os name m → IsChoice ps name n → m ≡ n
+choice_is_one name os ps m n e h k =
+    chosen_is_one (row_of name) m n (values_of name os) h (subst (λ (qs : List Given). IsChoice qs name n) (sym e) k)
 
-abbrev first_of : List ℕ → ℕ
-first_of [] = 0
-first_of (b ∷ bs) = b
+one_plan : (words : List (List ℕ)) (p q : Plan) → AskForPlan words p → AskForPlan words q → p ≡ q
+one_plan words p q h k =
+    let e = options_are_one words h.options k.options h.spelled k.spelled in
+    let finders = choice_is_one Finders h.options k.options p.finders q.finders e h.finders k.finders in
+    let size = choice_is_one Size h.options k.options p.first_size q.first_size e h.first_size k.first_size in
+    let nodes = choice_is_one Nodes h.options k.options p.nodes q.nodes e h.nodes k.nodes in
+    let candidates = choice_is_one Candidates h.options k.options p.candidates q.candidates e h.candidates k.candidates in
+    λ i. record { finders = finders i; first_size = size i; nodes = nodes i; candidates = candidates i }
 
-check_or_model : (words : List (String Global)) (size nodes : ℕ) → IsCheck words → AskForModel words size nodes → ⊥
-check_or_model [] size nodes h k = h
-check_or_model (word ∷ words) size nodes h k = let e : 99 ≡ 109 = ap first_of (sym h.0 ∙ k.0) in omega (arith, e)
+one_model : (words : List (List ℕ)) (s t m n w v : ℕ) → AskForModel words s m w → AskForModel words t n v → Model s m w ≡ Model t n v
+one_model words s t m n w v h k =
+    let e = options_are_one words h.options k.options h.spelled k.spelled in
+    let size = choice_is_one Size h.options k.options s t e h.is_size k.is_size in
+    let nodes = choice_is_one Nodes h.options k.options m n e h.is_budget k.is_budget in
+    let workers = choice_is_one Workers h.options k.options w v e h.are_workers k.are_workers in
+    λ i. Model (size i) (nodes i) (workers i)
 
-prove_or_model : (words : List (String Global)) (plan : Plan) (size nodes : ℕ) → AskForProof words plan → AskForModel words size nodes → ⊥
-prove_or_model [] plan size nodes h k = k
-prove_or_model (word ∷ words) plan size nodes (inl h) k = let e : 112 ≡ 109 = ap first_of (sym h.0.0 ∙ k.0) in omega (arith, e)
-prove_or_model (word ∷ words) plan size nodes (inr h) k = let e : 112 ≡ 109 = ap first_of (sym h.0.0 ∙ k.0) in omega (arith, e)
+one_count : (words : List (List ℕ)) (m n : ℕ) → AskForRungs words m → AskForRungs words n → m ≡ n
+one_count words m n h k = h.2.spelled ∙ ap (digits_value 10) (ap first_word (sym h.1 ∙ k.1)) ∙ sym k.2.spelled
 
--- ---- one plan
-
-with_or_without : (words : List (String Global)) → IsProve words → IsProveWithoutModels words → ⊥
-with_or_without words h k = let three : length words ≡ 3 = as_many _ words h in let five : length words ≡ 5 = as_many _ words k in omega (arith, three, five)
-
-one_plan : (words : List (String Global)) (plan other : Plan) → AskForProof words plan → AskForProof words other → plan ≡ other
-one_plan words plan other (inl h) (inl k) = h.1 ∙ sym k.1
-one_plan words plan other (inl h) (inr k) = absurd (with_or_without words h.0 k.0)
-one_plan words plan other (inr h) (inl k) = absurd (with_or_without words k.0 h.0)
-one_plan words plan other (inr h) (inr k) = h.1 ∙ sym k.1
-
--- ---- one size and one budget
-
-one_value : (low high m n : ℕ) (digits : List ℕ) → IsValue low high digits m → IsValue low high digits n → m ≡ n
-one_value low high m n digits h k = h.spelled ∙ sym k.spelled
-
-one_budget : (words : List (String Global)) (m n : ℕ) → AskForBudget words m → AskForBudget words n → m ≡ n
-one_budget [] m n h k = h ∙ sym k
-one_budget (option ∷ []) m n h k = absurd h
-one_budget (option ∷ word ∷ []) m n h k = one_value 1 10000000 m n (string_bytes word) h.1 k.1
-one_budget (option ∷ word ∷ other ∷ words) m n h k = absurd h
-
-one_size : (words : List (String Global)) (s t m n : ℕ) → AskForSize words s m → AskForSize words t n → (s ≡ t) × (m ≡ n)
-one_size [] s t m n h k = (h.0 ∙ sym k.0, h.1 ∙ sym k.1)
-one_size (option ∷ []) s t m n h k = absurd h
-one_size (option ∷ word ∷ words) s t m n (inl h) (inl k) = (one_value 1 8 s t (string_bytes word) h.1 k.1, one_budget words m n h.2 k.2)
-one_size (option ∷ word ∷ words) s t m n (inl h) (inr k) = absurd (k.0 h.0)
-one_size (option ∷ word ∷ words) s t m n (inr h) (inl k) = absurd (h.0 k.0)
-one_size (option ∷ word ∷ words) s t m n (inr h) (inr k) = (h.1 ∙ sym k.1, one_budget (option ∷ word ∷ words) m n h.2 k.2)
-
-one_model : (words : List (String Global)) (s t m n : ℕ) → AskForModel words s m → AskForModel words t n → Model s m ≡ Model t n
-one_model [] s t m n h k = absurd h
-one_model (word ∷ words) s t m n h k = let same = one_size words s t m n h.1 k.1 in λ j. Model (same.0 j) (same.1 j)
+-- the commands have one word, and the same words behind it
+one_behind : (words : List (List ℕ)) (c d : Command) → first_of (word_of c) ≡ first_of (word_of d) → AskFor words c → AskFor words d → c ≡ d
+one_behind words Check Check e h k = refl
+one_behind words (Prove p) (Prove q) e h k = ap Prove (one_plan words p q h k)
+one_behind words (Model s m w) (Model t n v) e h k = one_model words s t m n w v h k
+one_behind words (Bench m) (Bench n) e h k = ap Bench (one_count words m n h k)
+one_behind words c d e h k = absurd (omega (arith, e))
 
 pub one_command : (words : List (String Global)) (c d : Command) → Asks words c → Asks words d → c ≡ d
-one_command words Check Check h k = refl
-one_command words (Prove plan) (Prove other) h k = ap Prove (one_plan words plan other h k)
-one_command words (Model s m) (Model t n) h k = one_model words s t m n h k
-one_command words Check (Prove plan) h k = absurd (check_or_prove words plan h k)
-one_command words (Prove plan) Check h k = absurd (check_or_prove words plan k h)
-one_command words Check (Model t n) h k = absurd (check_or_model words t n h k)
-one_command words (Model t n) Check h k = absurd (check_or_model words t n k h)
-one_command words (Prove plan) (Model t n) h k = absurd (prove_or_model words plan t n h k)
-one_command words (Model t n) (Prove plan) h k = absurd (prove_or_model words plan t n k h)
+one_command words c d h k =
+    let e : word_of c ∷ h.0 ≡ word_of d ∷ k.0 = sym h.1 ∙ k.1 in
+    one_behind h.0 c d (ap (λ (ws : List (List ℕ)). first_of (first_word ws)) e) h.2 (subst (λ (ws : List (List ℕ)). AskFor ws d) (sym (ap other_words e)) k.2)
 
--- ---- neither check nor prove is asked for
+-- ---- what isn't asked for
 
-pub only_model : (words : List (String Global)) (result : Option Command) → ¬ IsCheck words → ((plan : Plan) → ¬ AskForProof words plan)
-    → MatchOption result ((s n : ℕ) → ¬ AskForModel words s n) (Asks words) → MatchOption result ((command : Command) → ¬ Asks words command) (Asks words)
-only_model words None check prove h = by
+not_prove : (words : List (List ℕ)) → ((plan : Plan) → ¬ AskForPlan words plan) → (c : Command) → ¬ IsAskedBy (codes "prove") words c
+not_prove words none (Prove plan) h = none plan h.1
+not_prove words none c h = let e : 112 ≡ first_of (word_of c) = ap first_of h.0 in omega (arith, e)
+
+not_model : (words : List (List ℕ)) → ((s n w : ℕ) → ¬ AskForModel words s n w) → (c : Command) → ¬ IsAskedBy (codes "model") words c
+not_model words none (Model s n w) h = none s n w h.1
+not_model words none c h = let e : 109 ≡ first_of (word_of c) = ap first_of h.0 in omega (arith, e)
+
+-- ---- by what was taken
+
+plan_fits : (words : List (List ℕ)) (plan : Plan) → AskForPlan words plan → AreFit words
+plan_fits words plan h = record { options = h.options; spelled = h.spelled; fit = fit }
   where
-    by : (command : Command) → ¬ Asks words command
-    by Check asked = check asked
-    by (Prove plan) asked = prove plan asked
-    by (Model size nodes) asked = h size nodes asked
-only_model words (Some command) check prove h = h
+    fit : (name : OptionName) → FitValues (row_of name) (values_of name h.options)
+    fit Finders = chosen_fits (row_of Finders) plan.finders (values_of Finders h.options) h.finders
+    fit Size = chosen_fits (row_of Size) plan.first_size (values_of Size h.options) h.first_size
+    fit Nodes = chosen_fits (row_of Nodes) plan.nodes (values_of Nodes h.options) h.nodes
+    fit Candidates = chosen_fits (row_of Candidates) plan.candidates (values_of Candidates h.options) h.candidates
+    fit Workers = none_fits (row_of Workers) (values_of Workers h.options) h.no_workers
 
--- ---- no size is asked for
+model_fits : (words : List (List ℕ)) (s n w : ℕ) → AskForModel words s n w → AreFit words
+model_fits words s n w h = record { options = h.options; spelled = h.spelled; fit = fit }
+  where
+    fit : (name : OptionName) → FitValues (row_of name) (values_of name h.options)
+    fit Finders = none_fits (row_of Finders) (values_of Finders h.options) h.no_finders
+    fit Size = chosen_fits (row_of Size) s (values_of Size h.options) h.is_size
+    fit Nodes = chosen_fits (row_of Nodes) n (values_of Nodes h.options) h.is_budget
+    fit Candidates = none_fits (row_of Candidates) (values_of Candidates h.options) h.no_candidates
+    fit Workers = chosen_fits (row_of Workers) w (values_of Workers h.options) h.are_workers
 
-pub unsized_asks : (words : List (String Global)) (option : String Global) (result : Option (ℕ × ℕ)) → 2 ≤ length words → option ≡ get_or words 0 option
-    → string_bytes option ≢ codes "--size" → MatchOption result ((n : ℕ) → ¬ AskForBudget words n) (λ r. (r.0 ≡ 2) × AskForBudget words r.1)
-    → MatchOption result ((s n : ℕ) → ¬ AskForSize words s n) (λ r. AskForSize words r.0 r.1)
-unsized_asks [] option result le is other h = absurd (omega (arith, le))
-unsized_asks (first ∷ []) option result le is other h = absurd (omega (arith, le))
-unsized_asks (first ∷ word ∷ rest) option None le is other h = λ s n k. elim k [ inl asked ↦ other (ap string_bytes is ∙ asked.0) | inr asked ↦ h n asked.2 ]
-unsized_asks (first ∷ word ∷ rest) option (Some r) le is other h = inr (λ e. other (ap string_bytes is ∙ e), h.0, h.1)
+pub unfit_prove : (words : List (List ℕ)) → ¬ AreFit words → (c : Command) → ¬ IsAskedBy (codes "prove") words c
+unfit_prove words unfit = not_prove words (λ plan h. unfit (plan_fits words plan h))
+
+pub unfit_model : (words : List (List ℕ)) → ¬ AreFit words → (c : Command) → ¬ IsAskedBy (codes "model") words c
+unfit_model words unfit = not_model words (λ s n w h. unfit (model_fits words s n w h))
+
+pub workers_given : (words : List (List ℕ)) (taken : Taken) (n : ℕ) → AreTaken words taken → taken.workers ≡ Some n → (c : Command) → ¬ IsAskedBy (codes "prove") words c
+workers_given words taken n t e = not_prove words (λ plan h. is_given words taken Workers n h.options t e h.spelled h.no_workers)
+
+pub finders_given : (words : List (List ℕ)) (taken : Taken) (n : ℕ) → AreTaken words taken → taken.finders ≡ Some n → (c : Command) → ¬ IsAskedBy (codes "model") words c
+finders_given words taken n t e = not_model words (λ s m w h. is_given words taken Finders n h.options t e h.spelled h.no_finders)
+
+pub candidates_given : (words : List (List ℕ)) (taken : Taken) (n : ℕ) → AreTaken words taken → taken.candidates ≡ Some n → (c : Command) → ¬ IsAskedBy (codes "model") words c
+candidates_given words taken n t e = not_model words (λ s m w h. is_given words taken Candidates n h.options t e h.spelled h.no_candidates)

@@ -83,13 +83,13 @@ fn read_model(words: &[String]) -> Option<Command>
     ensures in_range { IfSome result IsInRange }
 {
     let taken = read_options(words)?;
-    if taken.finders.is_some() {
-        return None;
+    match taken.finders {
+        Some(_) => None,
+        None => match taken.candidates {
+            Some(_) => None,
+            None => Some(model_of(taken)),
+        },
     }
-    if taken.candidates.is_some() {
-        return None;
-    }
-    Some(model_of(taken))
 }
 
 fn read_bench(words: &[String]) -> Option<Command>

@@ -1,5 +1,5 @@
 -- What working a candidate does to a chooser.
-use Rattle.std.proofs.Common.{◌≡◌, ◌∙◌, sym, ap, subst, refl, ℕ, ◌+◌, ◌-◌, ◌<◌, ◌≤◌, ◌⊎◌, inl, inr, Bool, true, false, List, [], ◌∷◌, length, take, get_or, Some, slice_get, arith}
+use Rattle.std.proofs.Common.{◌≡◌, ◌∙◌, sym, ap, subst, refl, ℕ, ◌+◌, ◌-◌, ◌<◌, ◌≤◌, ◌⊎◌, inl, inr, Bool, true, false, List, [], ◌∷◌, length, take, get_or, Option, Some, slice_get, arith}
 use Rattle.std.specs.Prelude.{◌↔◌, IsTrue}
 use Rattle.std.proofs.lemmas.Bool.{cases_order}
 use Rattle.std.proofs.lemmas.List.{length-append}
@@ -10,6 +10,7 @@ use Rattle.sc_term.specs.Clause.{weight}
 use Rattle.sc_input_rules.specs.Problem.{Stated}
 use Rattle.sc_input_rules.specs.WellFormed.{IsOver, IsProblem}
 use Rattle.sc_interp.specs.declared.plain.Claim.{Claim}
+use Rattle.sc_interp.specs.Structure.{Structure}
 use Rattle.sc_cells.specs.Cells.{cell_count}
 use Rattle.sc_worker.specs.declared.worked.Worked.{Worked}
 use Rattle.sc_worker.specs.declared.worked.Worked.TheVariants.{Joined, Skipped, Done, Wide}
@@ -17,6 +18,7 @@ use Rattle.sc_worker.specs.FinderList.{with_claim}
 use Rattle.sc_worker.specs.Choosing.{IsWorked}
 use Rattle.sc_worker.specs.Trying.{IsStep}
 use Rattle.sc_worker.specs.Keeping.{light_from, choice_of, AreClaimsOver, IsChooser}
+use Rattle.sc_worker.specs.Present.{IsPresent}
 use Rattle.sc_worker.proofs.LightLaws.{next_of}
 use Rattle.sc_worker.proofs.TryingLaws.{claims_over, input_over}
 
@@ -69,15 +71,16 @@ module _ (problem : Stated) (size budget : ℕ) (old new : List Claim) (place ne
   claims_now Done h = absurd h
   claims_now Wide h = absurd h
 
-  pub step_keeps : (worked : Worked) (wide : Bool) → IsChooser problem size old place room wide → IsOver problem.symbols c → next ≤ length problem.inputs
+  pub step_keeps : (worked : Worked) (wide : Bool) (present now : Option Structure) → IsChooser problem size old present place room wide → IsPresent problem size new now → IsOver problem.symbols c → next ≤ length problem.inputs
       → ((d : Clause) → slice_get problem.inputs next ≡ Some d → weight d ≤ 100)
-      → IsStep problem size budget (record { number = place + 1; clause = c }) old new worked → IsChooser problem size new next (room - 1) wide
-  step_keeps worked wide is over within light h = record {
+      → IsStep problem size budget (record { number = place + 1; clause = c }) old new worked → IsChooser problem size new now next (room - 1) wide
+  step_keeps worked wide present now is kept over within light h = record {
     some = is.some;
     small = is.small;
     within = within;
     light = light;
     over = all (claims_now worked h);
+    kept = kept;
     few = few (claims_now worked h);
     cells = is.cells;
   }
@@ -102,7 +105,7 @@ pub record IsAt (xs : List Clause) (place next room : ℕ) (c : Clause) (left : 
   pub light : (d : Clause) → slice_get xs next ≡ Some d → weight d ≤ 100
 
 module _ (problem : Stated) (size budget : ℕ) (old new : List Claim) (place next room : ℕ) (c : Clause) (left wide : Bool) (at : IsAt problem.inputs place next room c left)
-    (is : IsChooser problem size old place room wide) where
+    (present : Option Structure) (is : IsChooser problem size old present place room wide) where
   some_room : 0 < room
   some_room = (at.tells.0 at.is_left).0
 
@@ -114,5 +117,7 @@ module _ (problem : Stated) (size budget : ℕ) (old new : List Claim) (place ne
   next_works worked narrow h =
       step_works problem size budget old new place next room c some_room stands worked (is.light c stands) (cells_fit wide (cell_count problem.symbols size) is.cells narrow) at.same h
 
-  pub next_keeps : (worked : Worked) → IsProblem problem → IsStep problem size budget (record { number = place + 1; clause = c }) old new worked → IsChooser problem size new next (room - 1) wide
-  next_keeps worked such h = step_keeps problem size budget old new place next room c some_room stands worked wide is (input_over problem place c such stands) at.within at.light h
+  pub next_keeps : (worked : Worked) (now : Option Structure) → IsProblem problem → IsPresent problem size new now
+      → IsStep problem size budget (record { number = place + 1; clause = c }) old new worked → IsChooser problem size new now next (room - 1) wide
+  next_keeps worked now such kept h =
+      step_keeps problem size budget old new place next room c some_room stands worked wide present now is kept (input_over problem place c such stands) at.within at.light h

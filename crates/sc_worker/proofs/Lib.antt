@@ -1,7 +1,10 @@
 pub mod LightLaws
 pub mod TryingLaws
+pub mod PresentLaws
 pub mod KeepingLaws
 pub mod FinderLaws
 pub mod OneModel
 pub mod DecidedLaws
 pub mod ChooserLaws
+pub mod WorkingLaws
+pub mod Crossing

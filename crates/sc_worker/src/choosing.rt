@@ -8,26 +8,28 @@ ghost use Rattle.sc_worker.specs.Plans.{IsPlan, size_of_finder};
 ghost use Rattle.sc_worker.specs.Choosing.{at_first, IsWorked, IsTooWide};
 ghost use Rattle.sc_worker.specs.Trying.{IsStep};
 ghost use Rattle.sc_worker.specs.Keeping.{AreClaimsOver};
+ghost use Rattle.sc_worker.specs.Present.{IsPresent};
 
 use crate::light::next_light;
 use crate::plan::Plan;
-use crate::trying::{Tried, try_claims};
+use crate::trying::{Tried, try_next};
 use crate::worked::Worked;
 use sc_cells::{CellsError, cells_of};
 use sc_input_rules::Problem;
-use sc_interp::Claim;
+use sc_interp::{Claim, Tables};
 use sc_term::{Clause, List, Mem, OutOfMemory, Signature, copy};
 use std::alloc::Global;
 use std::marker::Model;
 
 /// What a finder works through: the candidates that are left, and the claims so far (`Choice`). The next candidate is the
-/// input clause at the place, and `room` are left at most.
+/// input clause at the place, and `room` are left at most. The tables of the last version are kept for the next candidate.
 #[derive(Drop)]
 pub struct Chooser<'a> {
     problem: &'a Problem,
     size: u8,
     budget: u64,
     claims: List<Claim>,
+    present: Option<Tables>,
     place: usize,
     room: u32,
     wide: bool,
@@ -45,7 +47,7 @@ impl<'a> Model for Chooser<'a> {
 
     ghost view = { λ c. choice_of c.problem.now c.size c.budget c.claims c.place c.room };
 
-    ghost invariant = { λ c. IsChooser c.problem.now c.size c.claims c.place c.room c.wide };
+    ghost invariant = { λ c. IsChooser c.problem.now c.size c.claims c.present c.place c.room c.wide };
 }
 
 /// The size at which that finder works.
@@ -104,6 +106,7 @@ fn work(
     size: u8,
     budget: u64,
     claims: &mut List<Claim>,
+    present: &mut Option<Tables>,
     number: u32,
     clause: &Clause,
 ) -> Mem<Worked>
@@ -113,12 +116,22 @@ fn work(
     requires claims { AreClaimsOver problem.now.symbols claims.old }
     requires clause { IsOver problem.now.symbols clause.now }
     requires few { length claims.old < 128 }
+    requires kept { IsPresent problem.now size claims.old present.old }
     ensures worked { IfOk result (IsStep problem.now size budget (record { number = number; clause = clause.now }) claims.old claims.new) }
+    ensures kept { IsPresent problem.now size claims.new present.new }
     ensures refused { OnErr result (claims.new ≡ claims.old) }
 {
     problem.keeps();
     push_claim(alloc, claims, number, clause)?;
-    match try_claims(alloc, problem, size, budget, claims.as_slice()) {
+    match try_next(
+        alloc,
+        problem,
+        size,
+        budget,
+        claims.as_slice(),
+        clause,
+        present,
+    ) {
         Ok(Tried::Found(version)) => Ok(Worked::Joined(version)),
         Ok(Tried::GivenUp(skip)) => {
             pop_claim(claims);
@@ -146,6 +159,7 @@ impl<'a> Chooser<'a> {
             size,
             budget: plan.nodes,
             claims: List::new(alloc),
+            present: None,
             place: next_light(problem.inputs().as_slice(), 0),
             room: plan.candidates,
             wide,
@@ -175,6 +189,7 @@ impl Chooser<'_> {
             self.size,
             self.budget,
             &mut self.claims,
+            &mut self.present,
             self.place as u32 + 1,
             &inputs[self.place],
         )?;

@@ -12,8 +12,9 @@ ghost use Rattle.sc_worker.specs.Finding.{IsFound};
 use crate::choosing::Chooser;
 use crate::gate::Gate;
 use crate::halt::Halt;
-use sc_shelf::{Press, Window};
-use sc_term::Mem;
+use crate::working::work_all;
+use sc_shelf::{Press, Window, look_last};
+use sc_term::{Mem, OutOfMemory};
 use sc_text_run_rules::FinderEnd;
 use std::alloc::Global;
 use std::marker::Model;
@@ -42,7 +43,7 @@ impl<'a> Model for Finder<'a> {
 impl<'a> Finder<'a> {
     /// The finder of that number, by which it passes gates.
     pub fn new(number: u32, chooser: Chooser<'a>, press: Press) -> Finder<'a>
-        ensures { result ≡ record { choice = chooser; press = press } }
+        ensures { result ≡ record { choice = chooser.entry; press = press } }
     {
         Finder {
             number,
@@ -53,7 +54,7 @@ impl<'a> Finder<'a> {
 
     /// The press, as it is, not closed.
     pub fn into_press(self) -> Press
-        ensures { result ≡ self.press }
+        ensures { result ≡ self.entry.press }
     {
         let Finder {
             number: _,
@@ -83,7 +84,15 @@ impl Finder<'_> {
         ensures symbols { self.new.press.symbols ≡ self.old.press.symbols }
         ensures open { is_closed self.new.press ≡ false }
     {
-        todo!()
+        work_all(
+            rt,
+            alloc,
+            &mut self.chooser,
+            &mut self.press,
+            halt,
+            gate,
+            self.number,
+        )
     }
 
     /// Closes the shelf, and has the window on it look for the last time: where that is Ok, the window has seen all that was
@@ -98,6 +107,11 @@ impl Finder<'_> {
         ensures list { listed self.new.press ≡ listed self.old.press }
         ensures choice { self.new.choice ≡ self.old.choice }
     {
-        todo!()
+        if !self.press.is_whole() {
+            return Err(OutOfMemory);
+        }
+        self.press.close(rt)?;
+        look_last(&mut self.press, window)?;
+        Ok(())
     }
 }

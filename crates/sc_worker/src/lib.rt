@@ -7,8 +7,10 @@
 //!
 //! It stands on the search for first models (`sc_find`) and on versions (`sc_interp`). Callers may rest on this: `next` is
 //! the definition of a finder's answers, candidate by candidate (`IsWorked`); what it tells joined is a version over the
-//! problem's symbols. Where memory is wanting the chooser stays as it was. Its memory is that of the claims; a job is made
-//! anew for each candidate, with copies of their clauses.
+//! problem's symbols. Where memory is wanting the chooser stays as it was. Its memory is that of the claims and of the
+//! tables of the last version: where these make the candidate true, they are those of the first model with it too
+//! (`proofs/PresentLaws`), and no search is made. For every other candidate a job is made anew, with copies of the claims'
+//! clauses.
 //!
 //! `proofs/FinderLaws` has what follows of answers: those of one candidate more, as many as candidates, and that each
 //! version is over the problem's symbols, with input clauses as its claims (`IsPublished`). `proofs/DecidedLaws` has that
@@ -23,8 +25,10 @@ mod gate;
 mod halt;
 mod light;
 mod plan;
+mod present;
 mod trying;
 mod worked;
+mod working;
 
 pub use choosing::Chooser;
 pub use finder::Finder;

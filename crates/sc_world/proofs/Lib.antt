@@ -16,4 +16,5 @@ pub mod WorldLaws
 pub mod WorldSight
 pub mod WorldSteps
 pub mod WorldOne
+pub mod EventLaws
 pub mod WorldExample

@@ -10,7 +10,7 @@ use Rattle.sc_core_rules.specs.declared.row.GivenRow.{GivenRow}
 use Rattle.sc_core_rules.specs.declared.row.Outcome.{Outcome}
 use Rattle.sc_core_rules.specs.declared.row.Outcome.TheVariants.{Proof, SosEmpty, GivenLimit, KeptLimit, WorkLimit}
 use Rattle.sc_text_run_rules.specs.RunValue.{RunValue}
-use Rattle.sc_world.specs.Events.{Event, Publish, Look, Turn, Machine, IsAfter}
+use Rattle.sc_world.specs.Events.{Event, Publish, Look, Turn, IsAfter}
 use Rattle.sc_world.specs.Recorded.{Tells}
 
 -- finder after finder, from finder f: it publishes the versions of its list from the one place up to the other, and the

@@ -1,9 +1,8 @@
-//! Copies of the rows of a run, and of versions.
+//! Copies of the rows of a run.
 
 ghost use Rattle.std.specs.Prelude.{◌≡◌, IfOk};
 
 use sc_core_rules::{GivenRow, KeptRow};
-use sc_interp::Version;
 use sc_term::{List, Mem, copy};
 use std::alloc::Global;
 
@@ -49,27 +48,6 @@ pub fn copy_kept_rows(alloc: Global, rows: &[KeptRow]) -> Mem<List<KeptRow>>
     let mut copies = List::new(alloc);
     for row in rows {
         copies.push(copy_kept(alloc, row)?)?;
-    }
-    Ok(copies)
-}
-
-fn copy_versions(alloc: Global, versions: &[Version]) -> Mem<List<Version>>
-    ensures { IfOk result (λ r. r ≡ versions.now) }
-{
-    let mut copies = List::new(alloc);
-    for version in versions {
-        copies.push(version.copy(alloc)?)?;
-    }
-    Ok(copies)
-}
-
-/// Lists of versions equal to these, in order.
-pub fn copy_lists(alloc: Global, lists: &[List<Version>]) -> Mem<List<List<Version>>>
-    ensures { IfOk result (λ r. r ≡ lists.now) }
-{
-    let mut copies = List::new(alloc);
-    for versions in lists {
-        copies.push(copy_versions(alloc, versions.as_slice())?)?;
     }
     Ok(copies)
 }

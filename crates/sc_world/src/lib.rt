@@ -16,8 +16,9 @@
 //! published list; while the prover is whole, its run is the one over a look for each turn that was made; each given row
 //! has the mark of its clause in the version that it names, which was published or is the opening one; every clause leaves
 //! the set of support in time; and a proof refutes the problem's clauses. `events_are_one` and `events_keep` are laws of the
-//! machine itself: so many finders and a list of events lead to one state, and the same holds of it. `proofs/WorldExample`
-//! has a worked case.
+//! machine itself: so many finders and a list of events lead to one state, and the same holds of it. `text_is_of_events` is
+//! the law that every text which tells a run tells events by which the machine comes to that run (`specs/EventsTold`).
+//! `proofs/WorldExample` has a worked case.
 //!
 //! It stands on the prover, on the chooser of candidates, on the marks of any clause (`sc_interp`), on the laws of
 //! `sc_core_laws`, and on the value of a run (`sc_text_run_rules`). `specs/Underway` says what is kept from turn to turn.
@@ -26,6 +27,7 @@
 //! (`text_is_one`). Want of memory is the one other answer; a proof of 2^32 lines or more counts as that.
 #![tactic(auto)]
 
+ghost use Rattle.sc_world.specs.EventsTold.{TextIsOfEvents};
 ghost use Rattle.sc_world.specs.OneText.{TextIsOne};
 
 mod beside;
@@ -44,4 +46,9 @@ pub use world::{World, events_are_one, events_keep};
 /// for the ends of the finders.
 pub fn text_is_one()
     ensures { TextIsOne }
+{}
+
+/// The law that every text which tells a run tells events by which the machine comes to that run (`TextIsOfEvents`).
+pub fn text_is_of_events()
+    ensures { TextIsOfEvents }
 {}

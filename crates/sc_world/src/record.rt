@@ -15,7 +15,7 @@ ghost use Rattle.sc_world.specs.Recorded.{AreMarks, IsRecord, TellsEnd};
 ghost use Rattle.sc_world.specs.Steps.{IsEnd};
 ghost use Rattle.sc_world.specs.Underway.{IsUnderway, HasStarted};
 
-use crate::copies::{copy_given_rows, copy_kept_rows, copy_lists};
+use crate::copies::{copy_given_rows, copy_kept_rows};
 use crate::lines::mark_rows;
 use crate::printed::lists_text;
 use crate::running::{end_of, run_to_its_end};
@@ -133,41 +133,42 @@ fn record(
     Ok(run)
 }
 
-/// The run with a copy of the versions that the prover sees.
-fn with_shelves(alloc: Global, prover: &Prover, run: RunText) -> Mem<Ended>
-    ensures shelves { IfOk result (λ ended. ended.shelves ≡ prover.now.seen) }
-    ensures run { IfOk result (λ ended. ended.run ≡ run) }
-{
-    let shelves = copy_lists(alloc, prover.seen())?;
-    Ok(Ended { shelves, run })
-}
-
 /// The record of the run that the prover and the chooser go on to its end, whatever the plan is by which the chooser began.
 fn finish(
     alloc: Global,
     problem: &Problem,
     prover: &mut Prover,
     chooser: &mut Chooser<'_>,
-) -> Mem<Ended>
+) -> Mem<RunText>
     requires few { length chooser.old.left ≤ 128 }
     requires underway { IsUnderway chooser.old prover.old chooser.old }
-    ensures { IfOk result (λ ended. (plan : APlan) → chooser.old ≡ at_first problem.now plan 1 → IsRecord problem.now plan ended.shelves (run_value ended.run)) }
+    ensures { IfOk result (λ run. (plan : APlan) → chooser.old ≡ at_first problem.now plan 1 → IsRecord problem.now plan prover.new.seen (run_value run)) }
 {
     let outcome = run_to_its_end(alloc, prover, chooser)?;
     let run = record(alloc, problem, prover, chooser, outcome)?;
-    let ended = with_shelves(alloc, prover, run)?;
-    Ok(ended)
+    Ok(run)
 }
 
 /// The record of the run of a prover that has started, with a finder of this plan.
-fn with_finder(alloc: Global, problem: &Problem, plan: &Plan, prover: &mut Prover) -> Mem<Ended>
+fn with_finder(alloc: Global, problem: &Problem, plan: &Plan, prover: &mut Prover) -> Mem<RunText>
     requires plan { IsPlan plan.now }
     requires started { HasStarted problem.now prover.old }
-    ensures { IfOk result (λ ended. IsRecord problem.now plan.now ended.shelves (run_value ended.run)) }
+    ensures { IfOk result (λ run. IsRecord problem.now plan.now prover.new.seen (run_value run)) }
 {
     let mut chooser = Chooser::new(alloc, problem, plan, 1)?;
-    let ended = finish(alloc, problem, prover, &mut chooser)?;
-    Ok(ended)
+    let run = finish(alloc, problem, prover, &mut chooser)?;
+    Ok(run)
+}
+
+/// The run with the versions that the prover saw.
+fn with_shelves(prover: Prover, run: RunText) -> Ended
+    ensures shelves { result.shelves ≡ prover.seen }
+    ensures run { result.run ≡ run }
+{
+    Ended {
+        shelves: prover.into_seen(),
+        run,
+    }
 }
 
 /// The run of the problem with one finder that works between the turns, and what the finder published. After each turn
@@ -179,5 +180,6 @@ pub fn prove_alone(alloc: Global, problem: &Problem, plan: &Plan) -> Mem<Ended>
     ensures { IfOk result (λ ended. IsRecord problem.now plan.now ended.shelves (run_value ended.run)) }
 {
     let mut prover = Prover::new(alloc, problem, 1)?;
-    with_finder(alloc, problem, plan, &mut prover)
+    let run = with_finder(alloc, problem, plan, &mut prover)?;
+    Ok(with_shelves(prover, run))
 }

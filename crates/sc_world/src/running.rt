@@ -12,13 +12,13 @@ use sc_worker::{Chooser, Worked};
 use std::alloc::Global;
 
 /// The prover sees the version that joined.
-fn see(prover: &mut Prover, worked: &Worked) -> Mem<()>
+fn see(prover: &mut Prover, worked: Worked) -> Mem<()>
     requires { MayGrow prover.old.seen }
-    ensures { OnOk result (prover.new ≡ seeing worked.now prover.old) }
+    ensures { OnOk result (prover.new ≡ seeing worked prover.old) }
 {
     match worked {
         Worked::Joined(version) => {
-            prover.add(1, version)?;
+            prover.receive(1, version)?;
             Ok(())
         }
         Worked::Skipped(_) => Ok(()),
@@ -33,7 +33,7 @@ fn work_next(alloc: Global, prover: &mut Prover, chooser: &mut Chooser<'_>) -> M
     ensures { OnOk result (IsNextWorked prover.old prover.new chooser.old chooser.new) }
 {
     let worked = chooser.next(alloc)?;
-    see(prover, &worked)?;
+    see(prover, worked)?;
     Ok(())
 }
 

@@ -9,4 +9,4 @@ finish-requires-clause-underway c =
     starts_underway c.args.problem.now c.args.plan.now c.args.prover.now c.in_ok-chooser.chooser c.in_ok-chooser.ensures c.requires.started
 
 pub returns : goal.returns
-returns c = c.in_ok-ended.ensures c.args.plan.now c.in_ok-chooser.ensures
+returns c = c.in_ok-run.ensures c.args.plan.now c.in_ok-chooser.ensures

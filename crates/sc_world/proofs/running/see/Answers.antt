@@ -4,8 +4,8 @@ use Rattle.sc_world.specs.Steps.{seeing}
 use Rattle.sc_world.proofs.StepLaws.{list_there}
 use Rattle.sc_world.proofs.running.see.Goals as goal
 
-pub add-requires-clause-there : goal.add-requires-clause-there
-add-requires-clause-there c = list_there c.args.prover.now.seen c.requires
+pub receive-requires-clause-there : goal.receive-requires-clause-there
+receive-requires-clause-there c = list_there c.args.prover.now.seen c.requires
 
-pub returns-in_ok-add-in-Joined : goal.returns-in_ok-add-in-Joined
-returns-in_ok-add-in-Joined c = c.in_ok-add-in-Joined.ensures.added ∙ ap (λ (w : Worked). seeing w c.args.prover.now) (sym c.in-Joined.is)
+pub returns-in_ok-receive-in-Joined : goal.returns-in_ok-receive-in-Joined
+returns-in_ok-receive-in-Joined c = c.in_ok-receive-in-Joined.ensures.added ∙ ap (λ (w : Worked). seeing w c.args.prover.now) (sym c.in-Joined.is)

@@ -30,7 +30,7 @@ invariant_of-self-2 c =
       light = next.ensures.light;
     }) in
     next_keeps c.self.inside.problem.now c.self.inside.size c.self.inside.budget c.self.inside.claims c.work.new.claims c.self.inside.place next.result c.self.inside.room c.index-inputs-self.result
-    c.is_left.result c.self.inside.wide at c.self.invariant c.in_ok-worked.worked c.keeps.ensures c.in_ok-worked.ensures.worked
+    c.is_left.result c.self.inside.wide at c.self.inside.present c.self.invariant c.in_ok-worked.worked c.work.new.present c.keeps.ensures c.work.ensures.kept c.in_ok-worked.ensures.worked
 
 pub returns-clause-worked : goal.returns-clause-worked
 returns-clause-worked c =
@@ -47,4 +47,4 @@ returns-clause-worked c =
     }) in
     subst (λ (choice : Choice). IsWorked choice (choice_of c.self.inside.problem.now c.self.inside.size c.self.inside.budget c.work.new.claims next.result (c.self.inside.room - 1)) c.in_ok-worked.worked) c.self.view_is
     (next_works c.self.inside.problem.now c.self.inside.size c.self.inside.budget c.self.inside.claims c.work.new.claims c.self.inside.place next.result c.self.inside.room c.index-inputs-self.result
-    c.is_left.result c.self.inside.wide at c.self.invariant c.in_ok-worked.worked c.if-self.false c.in_ok-worked.ensures.worked)
+    c.is_left.result c.self.inside.wide at c.self.inside.present c.self.invariant c.in_ok-worked.worked c.if-self.false c.in_ok-worked.ensures.worked)

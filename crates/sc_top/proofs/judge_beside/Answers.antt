@@ -1,0 +1,8 @@
+use Rattle.sc_top_words.specs.declared.commands.Command.TheVariants.{Prove}
+use Rattle.sc_top.proofs.ToldLaws.{stands_read}
+use Rattle.sc_top.proofs.judge_beside.Goals as goal
+
+pub returns-in-Ok-clause-stands : goal.returns-in-Ok-clause-stands
+returns-in-Ok-clause-stands g c =
+    stands_read (Prove c.args.plan.now) (g.S.Source.left c.args.source.now) c.in-Ok.bytes.items _ _ c.prove_bytes_beside.result (λ h. h) c.in-Ok.ensures.all
+    c.prove_bytes_beside.ensures.decided

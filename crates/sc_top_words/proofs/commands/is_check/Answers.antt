@@ -1,6 +1,0 @@
-use Rattle.std.proofs.Common.{◌≡◌, sym, true≢false, length, arith}
-use Rattle.sc_top_words.proofs.WordLaws.{as_many}
-use Rattle.sc_top_words.proofs.commands.is_check.Goals as goal
-
-pub returns-in_default-2 : goal.returns-in_default-2
-returns-in_default-2 c = (λ h. absurd (true≢false (sym h)), λ h. absurd (let many : length c.args.words.now ≡ 1 = as_many _ c.args.words.now h in omega (arith, many)))
