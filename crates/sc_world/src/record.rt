@@ -150,12 +150,7 @@ fn finish(
 }
 
 /// The record of the run of a prover that has started, with a finder of this plan.
-fn with_finder(
-    alloc: Global,
-    problem: &Problem,
-    plan: &Plan,
-    prover: &mut Prover,
-) -> Mem<RunText>
+fn with_finder(alloc: Global, problem: &Problem, plan: &Plan, prover: &mut Prover) -> Mem<RunText>
     requires plan { IsPlan plan.now }
     requires started { HasStarted problem.now prover.old }
     ensures { IfOk result (λ run. IsRecord problem.now plan.now prover.new.seen (run_value run)) }
