@@ -1,20 +1,25 @@
 -- The answer to a run of a ladder.
-use Rattle.std.proofs.Common.{◌≡◌, ◌∙◌, sym, ap, subst, refl, ℕ, ◌+◌, suc, List, [], ◌++◌, length, append_assoc, add-one}
+use Rattle.std.proofs.Common.{◌≡◌, ◌∙◌, sym, ap, subst, refl, ℕ, ◌+◌, suc, List, [], ◌++◌, length, append_assoc, add-one, ◌≤◌, ◌⊎◌, inl, inr, Result}
 use Rattle.std.specs.Prelude.{Ok, Err, get_or}
 use Rattle.sc_cells.specs.Listing.{in_turn}
 use Rattle.sc_input_rules.specs.declared.fault.Place.{Place}
 use Rattle.sc_input_rules.specs.Problem.{Stated}
+use Rattle.sc_input_rules.specs.Reading.{problem_of}
 use Rattle.sc_input_rules.proofs.ReadProblems.{read_problem}
+use Rattle.sc_input.specs.declared.refusal.InputError.{InputError}
+use Rattle.sc_input.specs.declared.refusal.InputError.TheVariants as error
+use Rattle.sc_input.specs.Refusal.{Refuses}
+use Rattle.sc_top.specs.Answers.{most_bytes, answer_to}
 use Rattle.sc_core_rules.specs.Selection.{Seen}
 use Rattle.sc_text_run_rules.specs.RunValue.{RunValue}
 use Rattle.sc_world.specs.Recorded.{IsRecord}
 use Rattle.sc_world.proofs.OneInline.{one_inline}
 use Rattle.sc_top.specs.declared.answer.BenchRun.{BenchRun}
 use Rattle.sc_top.specs.declared.answer.Answer.{Answer}
-use Rattle.sc_top.specs.declared.answer.Answer.TheVariants.{Benched, InputRefused}
+use Rattle.sc_top.specs.declared.answer.Answer.TheVariants.{Benched, InputRefused, OutOfMemory}
 use Rattle.sc_top.specs.Runs.{spelled_problem, SpellNeverSpent}
 use Rattle.sc_top.specs.Ladder.{rung, ladder, bench_plan, HasBench, IsBenchAnswer}
-use Rattle.sc_top.proofs.ProveLaws.{told_no_model, spells, one_problem, both_refused}
+use Rattle.sc_top.proofs.ProveLaws.{told_no_model, few_spell, spells, one_problem, both_refused}
 
 pub has_bench : (rungs : ℕ) (told : BenchRun) (problem : Stated) (versions : Seen) (run : RunValue) → spelled_problem (ladder rungs) ≡ Ok problem → IsRecord problem bench_plan versions run
     → told.rungs ≡ rungs → told.outcome ≡ run.outcome → told.given ≡ length run.given → told.kept ≡ length run.kept → told.versions ≡ length (get_or versions 0 [])
@@ -33,6 +38,15 @@ has_bench rungs told problem versions run read recorded of_rungs ended given kep
   lines = lines;
   no_model = λ is. told_no_model problem versions run recorded.tells (sym ended ∙ is);
 }
+
+-- the ladder spells what its text does
+pub ladder_spells : (rungs : ℕ) (text : List ℕ) (r : Result Stated Place) → text ≡ ladder rungs → length text ≤ most_bytes → problem_of text ≡ r → spelled_problem (ladder rungs) ≡ r
+ladder_spells rungs text r e le read = subst (λ (t : List ℕ). spelled_problem t ≡ r) e (few_spell text r le read)
+
+pub ladder_refused : (rungs : ℕ) (text : List ℕ) (e : InputError) (a : Answer) → text ≡ ladder rungs → length text ≤ most_bytes → Refuses e (problem_of text) → a ≡ answer_to e
+    → IsBenchAnswer rungs a ⊎ (a ≡ OutOfMemory)
+ladder_refused rungs text (error.Refused p) a is le refused e = inl (subst (IsBenchAnswer rungs) (sym e) (ladder_spells rungs text (Err p) is le refused))
+ladder_refused rungs text error.OutOfMemory a is le refused e = inr e
 
 -- one rung more
 pub rung_more : (n : ℕ) (front old new : List ℕ) → old ≡ front ++ in_turn rung n → new ≡ old ++ rung n → new ≡ front ++ in_turn rung (n + 1)

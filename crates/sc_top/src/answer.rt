@@ -1,6 +1,6 @@
 //! What the program answers: each answer has a status and a text.
 
-ghost use Rattle.std.specs.Prelude.{◌≡◌, ◌++◌, IfOk, IfSome, IfNone, codes, decimal, string_bytes};
+ghost use Rattle.std.specs.Prelude.{◌≡◌, ◌++◌, IfOk, OnOk, IfSome, IfNone, codes, decimal, string_bytes};
 ghost use Rattle.sc_top.specs.Answers.{answer_to, outcome_status, outcome_word, bench_text, modelled_status, modelled_text, status_of, text_of, MakesModelledText, MakesText, kind_text};
 
 use sc_core_rules::Outcome;
@@ -159,17 +159,29 @@ fn outcome_word(outcome: Outcome) -> &'static str
     }
 }
 
+/// Adds the label, and the number behind it.
+fn add_count(alloc: Global, label: &str, n: u64, text: &mut String) -> Mem<()>
+    ensures { OnOk result (string_bytes text.new ≡ string_bytes text.old ++ label.now ++ decimal n) }
+{
+    let number = format!(in alloc; "{n}")?;
+    text.push_str(label)?;
+    text.push_str(number.as_str())?;
+    Ok(())
+}
+
 /// The text of the run of a ladder.
 fn bench_text(alloc: Global, run: &BenchRun) -> Mem<String>
     ensures { IfOk result (λ text. string_bytes text ≡ bench_text run.now) }
 {
     let rungs = run.rungs;
-    let word = outcome_word(run.outcome);
-    let given = run.given;
-    let kept = run.kept;
-    let versions = run.versions;
-    let lines = run.lines;
-    Ok(format!(in alloc; "bench {rungs}: {word}, given {given}, kept {kept}, versions {versions}, lines {lines}\n")?)
+    let mut text = format!(in alloc; "bench {rungs}: ")?;
+    text.push_str(outcome_word(run.outcome))?;
+    add_count(alloc, ", given ", run.given, &mut text)?;
+    add_count(alloc, ", kept ", run.kept, &mut text)?;
+    add_count(alloc, ", versions ", run.versions, &mut text)?;
+    add_count(alloc, ", lines ", run.lines, &mut text)?;
+    text.push_str("\n")?;
+    Ok(text)
 }
 
 /// The answer where an input isn't read.

@@ -1,21 +1,19 @@
 -- A finder goes from candidate to candidate, and has found what it published where it ends.
-use Rattle.std.proofs.Common.{◌≡◌, ◌≢◌, ◌∙◌, sym, ap, subst, refl, ℕ, suc, ◌+◌, ◌-◌, ◌<◌, ◌≤◌, true, false, List, [], ◌∷◌, ◌++◌, length, drop, Option, Some, None, arith}
+use Rattle.std.proofs.Common.{◌≡◌, ◌≢◌, ◌∙◌, sym, ap, subst, refl, ℕ, ◌+◌, ◌<◌, ◌≤◌, true, false, List, [], ◌∷◌, ◌++◌, length, Option, Some, None, arith}
 use Rattle.std.specs.Prelude.{◌↔◌, IsTrue}
 use Rattle.std.proofs.lemmas.List.{length-append, length-drop}
 use Rattle.sc_term.specs.declared.symbol.Symbol.{Symbol}
 use Rattle.sc_term.specs.declared.Numbered.{Numbered}
 use Rattle.sc_input_rules.specs.Problem.{Stated}
-use Rattle.sc_interp.specs.Structure.{Structure, AreTablesOf}
+use Rattle.sc_interp.specs.Structure.{AreTablesOf}
 use Rattle.sc_interp.specs.Versions.{ClaimedStructure}
 use Rattle.sc_shelf.specs.State.{PressState, listed, is_closed, new_press}
-use Rattle.sc_base.specs.Causes.{Rose}
-use Rattle.sc_text_run_rules.specs.declared.run.FinderEnd.{FinderEnd}
-use Rattle.sc_text_run_rules.specs.declared.run.FinderEnd.TheVariants.{Done, Stopped, Wide, Memory}
+use Rattle.sc_text_run_rules.specs.declared.run.FinderEnd.TheVariants.{Done}
 use Rattle.sc_worker.specs.declared.plan.Plan.{Plan}
 use Rattle.sc_worker.specs.declared.worked.Skip.{Skip}
-use Rattle.sc_worker.specs.FinderList.{candidates_of, version_with, with_claim, versions_of}
-use Rattle.sc_worker.specs.Choosing.{Choice, at_first, after_answers, IsTooWide, IsJoined, IsSkipped}
-use Rattle.sc_worker.specs.Finding.{FitsEnd, IsFound}
+use Rattle.sc_worker.specs.FinderList.{candidates_of, versions_of}
+use Rattle.sc_worker.specs.Choosing.{Choice, at_first, IsTooWide, IsJoined, IsSkipped}
+use Rattle.sc_worker.specs.Finding.{IsFound}
 use Rattle.sc_worker.specs.Underway.{HasCome, IsReady, IsUnderway, HasAnswer, IsOneMore}
 use Rattle.sc_worker.proofs.FinderLaws.{versions_append}
 use Rattle.sc_worker.proofs.ChooserLaws.{work_at_first, IsAlong, along_joined, along_skipped}
@@ -126,43 +124,23 @@ underway_on first old new before after u more =
 pub fewer_on : (first old new : Choice) (before after : PressState) → IsUnderway first old before → IsOneMore old new before after → length new.left < length first.left
 fewer_on first old new before after u more = let was = u.fewer in let one = (less_of old new more.answer more.has).fewer in omega (arith, was, one)
 
-pub fewer_than_before : (old new : Choice) (before after : PressState) → IsOneMore old new before after → length new.left < length old.left
-fewer_than_before old new before after more = let one = (less_of old new more.answer more.has).fewer in omega (arith, one)
-
 -- ---- the end
 
-some_left : {X : Type 0} (xs : List X) → xs ≢ [] → 0 < length xs
-some_left [] not = absurd (not refl)
-some_left (x ∷ xs) not = omega arith
-
 module _ (problem : Stated) (plan : Plan) (f : ℕ) (now : Choice) (versions : List ClaimedStructure) (h : HasCome problem plan f now versions) where
-  ended : (end : FinderEnd) → FitsEnd problem plan f end h.worked → IsFound problem plan f end versions
-  ended end fits = record { worked = h.worked; answers = h.answers; work = h.work; fits = fits; published = h.published }
+  all_worked : now.left ≡ [] → h.worked ≡ length (candidates_of problem plan)
+  all_worked none =
+      let long = ap (λ (c : Choice). length c.left) h.choice ∙ length-drop h.worked (candidates_of problem plan) in
+      let zero = ap length none in
+      let within = h.work.within in
+      omega (arith, long, zero, within)
 
-  left_long : length now.left ≡ length (candidates_of problem plan) - h.worked
-  left_long = ap (λ (c : Choice). length c.left) h.choice ∙ length-drop h.worked (candidates_of problem plan)
+  has_done : now.left ≡ [] → IsFound problem plan f Done versions
+  has_done none = record { worked = h.worked; answers = h.answers; work = h.work; fits = all_worked none; published = h.published }
 
-  ended_done : now.left ≡ [] → IsFound problem plan f Done versions
-  ended_done none = ended Done (let long = left_long in let zero = ap length none in let within = h.work.within in omega (arith, long, zero, within))
-
-  ended_stopped : now.left ≢ [] → length now.left < length (candidates_of problem plan) → IsFound problem plan f Stopped versions
-  ended_stopped more fewer = let long = left_long in let some = some_left now.left more in ended Stopped (omega (arith, long, fewer), omega (arith, long, some))
-
-  ended_wide : now.left ≢ [] → IsTooWide now → IsFound problem plan f Wide versions
-  ended_wide more wide = let long = left_long in let some = some_left now.left more in ended Wide (omega (arith, long, some), subst IsTooWide h.choice wide)
-
-module _ (first now : Choice) (press : PressState) (u : IsUnderway first now press) (plan : Plan) (f : ℕ) (is : first ≡ at_first first.problem plan f) where
-  pub found_done : now.left ≡ [] → (later : List ClaimedStructure) → later ≡ listed press → IsFound first.problem plan f Done later
-  found_done none later same = subst (IsFound first.problem plan f Done) (sym same) (ended_done first.problem plan f now (listed press) (u.came plan f is) none)
-
-  pub found_stopped : now.left ≢ [] → length now.left < length first.left → IsFound first.problem plan f Stopped (listed press)
-  found_stopped more fewer = ended_stopped first.problem plan f now (listed press) (u.came plan f is) more (let all = ap (λ (c : Choice). length c.left) is in omega (arith, all, fewer))
-
-  pub found_wide : now.left ≢ [] → IsTooWide now → (later : List ClaimedStructure) → later ≡ listed press → IsFound first.problem plan f Wide later
-  found_wide more wide later same = subst (IsFound first.problem plan f Wide) (sym same) (ended_wide first.problem plan f now (listed press) (u.came plan f is) more wide)
-
-  pub found_memory : (later : List ClaimedStructure) → later ≡ listed press → IsFound first.problem plan f Memory later
-  found_memory later same = subst (IsFound first.problem plan f Memory) (sym same) (ended first.problem plan f now (listed press) (u.came plan f is) Memory tt)
+-- where none is left, all candidates were worked
+pub found_done : (first now : Choice) (press : PressState) → IsUnderway first now press → (plan : Plan) (f : ℕ) → first ≡ at_first first.problem plan f → now.left ≡ []
+    → IsFound first.problem plan f Done (listed press)
+found_done first now press u plan f is = has_done first.problem plan f now (listed press) (u.came plan f is)
 
 none_left : {X : Type 0} (xs : List X) → ¬ (xs ≢ []) → xs ≡ []
 none_left [] not = refl
@@ -171,6 +149,3 @@ none_left (x ∷ xs) not = absurd (not (λ e. absurd cc))
 -- where it is told that none is left, there is none
 pub none_where : {X : Type 0} (xs : List X) → (IsTrue false ↔ (xs ≢ [])) → xs ≡ []
 none_where xs tells = none_left xs (λ more. let is = tells.1 more in absurd (cc is))
-
-pub rose_later : (first now later : ℕ) → first ≤ now → Rose now later → Rose first later
-rose_later first now later up rose = omega (arith, up, rose)

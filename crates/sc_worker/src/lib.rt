@@ -12,6 +12,14 @@
 //! (`proofs/PresentLaws`), and no search is made. For every other candidate a job is made anew, with copies of the claims'
 //! clauses.
 //!
+//! A `Finder` works the candidates of a chooser and publishes the versions on a shelf, on a thread of its own. `work` ends
+//! where none is left, where it is asked to stop, where there are too many cells, or where memory is wanting; on each end
+//! the shelf is open and has exactly the versions of the candidates worked, of which the end tells how many (`IsFound`). It
+//! asks its `Halt` before each candidate but the first, so that the first is always worked; `Stop` asks an atomic word. It
+//! passes its `Gate` before the first candidate and after each. `close` closes the shelf, and its window then sees all.
+//! `specs/Underway` says what holds between two candidates, `proofs/WorkingLaws` how one more keeps it, and
+//! `proofs/Crossing` that a finder may go to another thread.
+//!
 //! `proofs/FinderLaws` has what follows of answers: those of one candidate more, as many as candidates, and that each
 //! version is over the problem's symbols, with input clauses as its claims (`IsPublished`). `proofs/DecidedLaws` has that
 //! they are decided where no search is spent, `proofs/ChooserLaws` that a chooser goes through the work of its finder

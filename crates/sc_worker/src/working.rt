@@ -64,7 +64,7 @@ fn work_next<R: Wait>(
 }
 
 /// Works candidate after candidate, and publishes each version (`Finder::work`).
-#[tactic(auto, using(crate::proofs::WorkingLaws::underway_at_first, crate::proofs::WorkingLaws::underway_on, crate::proofs::WorkingLaws::fewer_than_before, crate::proofs::WorkingLaws::fewer_on, crate::proofs::WorkingLaws::rose_later, crate::proofs::WorkingLaws::found_memory))]
+#[tactic(auto, using(crate::proofs::WorkingLaws::underway_on, crate::proofs::WorkingLaws::fewer_on))]
 pub fn work_all<R: Wait, H: Halt, G: Gate>(
     rt: &R,
     alloc: Global,

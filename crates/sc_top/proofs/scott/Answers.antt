@@ -37,3 +37,15 @@ returns-in-Some-clause-complete g c = λ command asked five six.
 pub returns-in-Some-clause-bench_reads_nothing : goal.returns-in-Some-clause-bench_reads_nothing
 returns-in-Some-clause-bench_reads_nothing g c = λ rungs asked.
     c.serve.ensures.nothing_read (of_command c.args.words.now ReadsNothing (Bench rungs) c.in-Some.command asked c.in-Some.ensures.asked tt)
+
+pub returns-in-Some-clause-words_refused : goal.returns-in-Some-clause-words_refused
+returns-in-Some-clause-words_refused g c = λ none. absurd (none c.in-Some.command c.in-Some.ensures.asked)
+
+pub returns-in-Some-clause-nothing_read : goal.returns-in-Some-clause-nothing_read
+returns-in-Some-clause-nothing_read g c = λ none. absurd (none c.in-Some.command c.in-Some.ensures.asked)
+
+pub returns-in-None-clause-decided : goal.returns-in-None-clause-decided
+returns-in-None-clause-decided g c = λ command asked six. absurd (c.in-None.ensures.asked command asked)
+
+pub returns-in-None-clause-complete : goal.returns-in-None-clause-complete
+returns-in-None-clause-complete g c = λ command asked five six. absurd (c.in-None.ensures.asked command asked)

@@ -1,5 +1,4 @@
-use Rattle.std.proofs.Common.{refl, arith, ◌≡◌, List, []}
-use Rattle.sc_shelf.specs.State.{listed}
+use Rattle.std.proofs.Common.{refl, arith}
 use Rattle.sc_worker.proofs.WorkingLaws.{underway_at_first, none_where, found_done}
 use Rattle.sc_worker.proofs.working.work_all.Goals as goal
 
@@ -9,4 +8,4 @@ loop-alloc-init g c = (underway_at_first c.args.chooser.now c.args.press.now c.r
 pub returns-clause-found : goal.returns-clause-found
 returns-clause-found g c =
     λ plan f is. found_done c.args.chooser.now c.loop-alloc.chooser c.loop-alloc.press c.loop-alloc.invariant.0 plan f is
-    (none_where c.loop-alloc.chooser.left c.loop-alloc-test.ensures) (listed c.loop-alloc.press) refl
+    (none_where c.loop-alloc.chooser.left c.loop-alloc-test.ensures)
