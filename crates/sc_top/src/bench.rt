@@ -37,8 +37,7 @@ fn add_rung(alloc: Global, i: u32, text: &mut Vec<u8>) -> Mem<()>
 fn add_end(alloc: Global, rungs: u32, text: &mut Vec<u8>) -> Mem<()>
     ensures { OnOk result (text.new.items ≡ text.old.items ++ end_of rungs) }
 {
-    let end =
-        format!(in alloc; "-p{rungs}(a).\nend_of_list.\nlist(sos).\np0(a).\nend_of_list.\n")?;
+    let end = format!(in alloc; "-p{rungs}(a).\nend_of_list.\nlist(sos).\np0(a).\nend_of_list.\n")?;
     text.extend_from_slice(end.as_bytes())?;
     Ok(())
 }
