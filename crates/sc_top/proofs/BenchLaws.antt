@@ -1,5 +1,5 @@
 -- The answer to a run of a ladder.
-use Rattle.std.proofs.Common.{◌≡◌, ◌∙◌, sym, ap, subst, refl, ℕ, ◌+◌, suc, List, [], ◌++◌, length, append_assoc, add-one, ◌≤◌, ◌⊎◌, inl, inr, Result}
+use Rattle.std.proofs.Common.{◌≡◌, ◌∙◌, sym, ap, subst, ℕ, ◌+◌, List, [], ◌++◌, length, append_assoc, add-one, ◌≤◌, ◌⊎◌, inl, inr, Result}
 use Rattle.std.specs.Prelude.{Ok, Err, get_or}
 use Rattle.sc_cells.specs.Listing.{in_turn}
 use Rattle.sc_input_rules.specs.declared.fault.Place.{Place}

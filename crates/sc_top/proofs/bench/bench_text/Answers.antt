@@ -1,6 +1,5 @@
 use Rattle.std.proofs.Common.{rules, arith, ◌≤◌, length}
 use Rattle.std.specs.Prelude.{Ok}
-use Rattle.sc_top.specs.Answers.{most_bytes}
 use Rattle.sc_top.proofs.BenchLaws.{ladder_spells, ladder_refused}
 use Rattle.sc_top.proofs.bench.bench_text.Goals as goal
 
