@@ -1,5 +1,5 @@
 -- So many finders and a list of events lead to one machine.
-use Rattle.std.proofs.Common.{◌≡◌, ◌∙◌, sym, ap, subst, refl, ℕ, inl, inr, List, [], ◌∷◌, ◌++◌, replicate, Option, Some}
+use Rattle.std.proofs.Common.{◌≡◌, ◌∙◌, sym, ap, subst, refl, ℕ, inl, inr, List, [], ◌∷◌, ◌++◌, replicate, Some}
 use Rattle.sc_term.specs.Numbering.{numbered, with_element}
 use Rattle.sc_steps.proofs.ListLaws.{some_and}
 use Rattle.sc_input_rules.specs.Problem.{Stated}
