@@ -18,3 +18,7 @@ pub mod WorldSteps
 pub mod WorldOne
 pub mod EventLaws
 pub mod WorldExample
+pub mod Stepping
+pub mod AbreastLaws
+pub mod BesideLaws
+pub mod ActorCrossing

@@ -39,17 +39,21 @@ use Rattle.sc_world.proofs.InlineLaws.{is_inline}
 
 -- ---- versions
 
-module _ (problem : Stated) (size : ℕ) where
-  told_list : (versions : List ClaimedStructure) → AllByRecursion (IsPublished problem size) versions → AllZip (IsTold problem) (map printed versions) versions
-  told_list [] h = tt
-  told_list (v ∷ versions) h = (
+-- versions of one size over the problem's symbols, whose claims are input clauses
+abbrev pub IsPublishedList : Stated → List ClaimedStructure → Type 0
+IsPublishedList problem versions = (size : ℕ) × AllByRecursion (IsPublished problem size) versions
+
+module _ (problem : Stated) where
+  told_list : (size : ℕ) (versions : List ClaimedStructure) → AllByRecursion (IsPublished problem size) versions → AllZip (IsTold problem) (map printed versions) versions
+  told_list size [] h = tt
+  told_list size (v ∷ versions) h = (
     record { version = (h.0).version; over = (h.0).over; size = refl; entries = refl; numbers = refl; clauses = (h.0).inputs },
-    told_list versions h.1,
+    told_list size versions h.1,
   )
 
-  told_lists : (lists : Seen) → AllByRecursion (AllByRecursion (IsPublished problem size)) lists → AllZip (AllZip (IsTold problem)) (all_printed lists) lists
+  told_lists : (lists : Seen) → AllByRecursion (IsPublishedList problem) lists → AllZip (AllZip (IsTold problem)) (all_printed lists) lists
   told_lists [] h = tt
-  told_lists (versions ∷ lists) h = (told_list versions h.0, told_lists lists h.1)
+  told_lists (versions ∷ lists) h = (told_list h.0.0 versions h.0.1, told_lists lists h.1)
 
 -- ---- the proof
 
@@ -82,13 +86,13 @@ module _ (problem : Stated) (versions : Seen) (run : Run) (o : Outcome) (ended :
   in_time : LeaveInTime problem versions run.given run.book.kept
   in_time n t put turn = leaves_in_time problem (looks_of run.given versions) run n t over_all put turn
 
-  pub is_told : (size : ℕ) → AllByRecursion (AllByRecursion (IsPublished problem size)) versions → (text : RunValue) → text.lists ≡ all_printed versions → text.ratio ≡ ratio problem
+  pub is_told : AllByRecursion (IsPublishedList problem) versions → (text : RunValue) → text.lists ≡ all_printed versions → text.ratio ≡ ratio problem
       → text.given ≡ run.given → text.kept ≡ run.book.kept → text.outcome ≡ o → TellsEnd problem versions run o text.proof text.marks → Tells problem versions text
-  is_told size published text lists ratio given kept outcome proof = record {
+  is_told published text lists ratio given kept outcome proof = record {
     run = run;
     is_run = subst (λ (rows : List GivenRow). IsRun problem (looks_of rows versions) run) (sym given) over_all;
     grow = subst (λ (rows : List GivenRow). Grow (looks_of rows versions)) (sym given) (looks_grow versions run.given reached.grow);
-    lists = subst (λ (l : List (List VersionValue)). AllZip (AllZip (IsTold problem)) l versions) (sym lists) (told_lists problem size versions published);
+    lists = subst (λ (l : List (List VersionValue)). AllZip (AllZip (IsTold problem)) l versions) (sym lists) (told_lists problem versions published);
     ratio = ratio;
     given = given;
     true_rows = subst (AllByRecursion (IsTrueRow problem versions run.book)) (sym given)
@@ -113,7 +117,7 @@ is_record problem plan prover choice h such reached o ended text lines rows told
   one = h.sees;
   tells = is_told problem prover.seen prover.run o ended well_formed
       (subst (λ (p : Stated). IsReached p prover.seen prover.run) h.same (reached h.whole))
-      (size_of_finder plan 1) (subst (AllByRecursion (AllByRecursion (IsPublished problem (size_of_finder plan 1)))) (sym h.sees) (published, tt))
+      (subst (AllByRecursion (IsPublishedList problem)) (sym h.sees) ((size_of_finder plan 1, published), tt))
       (run_value text) lists ratio_is given kept outcome
       (subst (λ (p : Stated). TellsEnd p prover.seen prover.run o text.proof text.marks) h.same
       (subst (λ (l : List Line). TellsEnd prover.problem prover.seen prover.run o l text.marks) (sym proof)

@@ -18,10 +18,10 @@ use Rattle.sc_world.specs.Recorded.{Tells, IsRecord}
 use Rattle.sc_world.specs.EventsTold.{IsOfEvents}
 
 -- one end and one list for each finder of the plan: how it ended, and what it published for the candidates that it worked
-pub record AllFound (problem : Stated) (plan : Plan) (ends : List FinderEnd) (versions : Seen) : Type 0 where
-  pub ends : length ends ≡ plan.finders
+pub record AllFound (problem : Stated) (plan : Plan) (told : List FinderEnd) (versions : Seen) : Type 0 where
+  pub ends : length told ≡ plan.finders
   pub lists : length versions ≡ plan.finders
-  pub each : (f : ℕ) (end : FinderEnd) (list : List ClaimedStructure) → numbered ends f ≡ Some end → numbered versions f ≡ Some list → IsFound problem plan f end list
+  pub each : (f : ℕ) (end : FinderEnd) (list : List ClaimedStructure) → numbered told f ≡ Some end → numbered versions f ≡ Some list → IsFound problem plan f end list
 
 -- The text records a run of the problem beside the plan's finders, whose whole lists are printed: it tells the run over the
 -- looks at these lists that its given rows tell, and how each finder ended. The run is also what the machine over events

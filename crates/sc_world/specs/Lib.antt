@@ -8,3 +8,5 @@ pub mod Kept
 pub mod World
 pub mod EventsTold
 pub mod Beside
+pub mod Abreast
+pub mod Acting

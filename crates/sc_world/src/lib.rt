@@ -10,6 +10,13 @@
 //! together for the empty clause, they are a proof and refute the input clauses, and the marks are those of the lines in
 //! the guide at the end; and every clause leaves the set of support in time.
 //!
+//! `prove_with_finders` makes the run beside 1 to 8 finders, each on a thread of its own with a shelf (`sc_shelf`): before
+//! each turn the prover looks at every shelf once, and adds what is new to what it sees; when its run has ended it sets a
+//! word by which the finders, who work their first candidates in any case, stop; and when all have ended each shelf is
+//! closed and looked at once more. The record (`specs/Beside`) tells a run over the looks at the printed lists, which are
+//! all that was published, with the marks in the guide of these. `specs/Abreast` says what is kept from turn to turn,
+//! `specs/Acting` what a finder's thread does. A press is no `Drop`, so `prove_with_finders` ends all on its one way out.
+//!
 //! `World` is the machine of three kinds of event without threads: a finder publishes a version, the prover looks at a
 //! finder's list, and it makes a turn. Each call is the event of its name (`specs/Events`), or changes nothing that a
 //! refused one may not, and `keeps` tells what holds after any calls (`specs/Kept`): each seen list begins its finder's
@@ -30,12 +37,17 @@
 ghost use Rattle.sc_world.specs.EventsTold.{TextIsOfEvents};
 ghost use Rattle.sc_world.specs.OneText.{TextIsOne};
 
+mod actors;
 mod beside;
+mod closing;
 mod copies;
 mod lines;
+mod opening;
 mod printed;
 mod record;
 mod running;
+mod side;
+mod turns;
 mod world;
 
 pub use beside::{Beside, prove_with_finders};

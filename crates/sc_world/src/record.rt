@@ -62,7 +62,7 @@ fn marks_in_guide(alloc: Global, prover: &Prover, lines: &[Line]) -> Mem<List<Ma
 }
 
 /// The proof of the run with the marks of its lines in the guide, where the outcome is a proof, and otherwise nothing.
-fn proof_and_marks(
+pub fn proof_and_marks(
     alloc: Global,
     prover: &Prover,
     outcome: Outcome,
@@ -84,12 +84,12 @@ fn proof_and_marks(
     }
 }
 
-/// The rows of a run that ended so, with these lines and marks.
-fn rows(
+/// The rows of a run that ended so, with these ends of the finders, these lines and marks.
+pub fn rows(
     alloc: Global,
     problem: &Problem,
     prover: &Prover,
-    chooser: &Chooser<'_>,
+    ends: List<FinderEnd>,
     outcome: Outcome,
     told: (List<Line>, List<MarkRow>),
 ) -> Mem<RunText>
@@ -97,7 +97,7 @@ fn rows(
     ensures lists { IfOk result (λ run. map (map version_value) run.lists ≡ all_printed prover.now.seen) }
     ensures given { IfOk result (λ run. run.given ≡ prover.now.run.given) }
     ensures kept { IfOk result (λ run. run.kept ≡ prover.now.run.book.kept) }
-    ensures ends { IfOk result (λ run. (end : AnEnd) × IsEnd chooser.now end × (run.ends ≡ end ∷ [])) }
+    ensures ends { IfOk result (λ run. run.ends ≡ ends) }
     ensures outcome { IfOk result (λ run. run.outcome ≡ outcome) }
     ensures proof { IfOk result (λ run. run.proof ≡ told.0) }
     ensures marks { IfOk result (λ run. run.marks ≡ told.1) }
@@ -108,7 +108,7 @@ fn rows(
         lists: lists_text(alloc, prover.seen())?,
         given: copy_given_rows(alloc, prover.given().as_slice())?,
         kept: copy_kept_rows(alloc, prover.kept().as_slice())?,
-        ends: one_end(alloc, chooser)?,
+        ends,
         outcome,
         proof,
         marks,
@@ -129,7 +129,8 @@ fn record(
 {
     prover.keeps();
     let told = proof_and_marks(alloc, prover, outcome)?;
-    let run = rows(alloc, problem, prover, chooser, outcome, told)?;
+    let ends = one_end(alloc, chooser)?;
+    let run = rows(alloc, problem, prover, ends, outcome, told)?;
     Ok(run)
 }
 
@@ -161,7 +162,7 @@ fn with_finder(alloc: Global, problem: &Problem, plan: &Plan, prover: &mut Prove
 }
 
 /// The run with the versions that the prover saw.
-fn with_shelves(prover: Prover, run: RunText) -> Ended
+pub fn with_shelves(prover: Prover, run: RunText) -> Ended
     ensures shelves { result.shelves ≡ prover.seen }
     ensures run { result.run ≡ run }
 {

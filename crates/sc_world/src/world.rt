@@ -67,7 +67,7 @@ fn push_copy(alloc: Global, lists: &mut [List<Version>], finder: u32, version: &
 
 /// The prover, which sees the first versions of the finder's list up to this place, sees the others too, one after
 /// another. Where memory is wanting, it sees some of them.
-fn see_from(prover: &mut Prover, finder: u32, versions: &[Version], from: usize) -> Mem<()>
+pub fn see_from(prover: &mut Prover, finder: u32, versions: &[Version], from: usize) -> Mem<()>
     requires some { 1 ≤ finder }
     requires there { finder ≤ length prover.old.seen }
     requires within { from ≤ length versions.now }
