@@ -69,7 +69,8 @@ is_same name other = false
 abbrev pub values_of : OptionName → List Given → List (List ℕ)
 values_of name options = map (λ (option : Given). option.value) (filter (λ (option : Given). is_same name option.name) options)
 
--- the value that these ask for: the one that is given, which is in the range, or the usual one where none is given
+-- the value that these ask for: the one that is given, which is in the range, or the usual one where none is given; where
+-- more than one is given, nothing is asked for
 abbrev pub IsChosen : Row → List (List ℕ) → ℕ → Type 0
 IsChosen row [] n = n ≡ row.usual
 IsChosen row (value ∷ []) n = IsValue row.low row.high value n
