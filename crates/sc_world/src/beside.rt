@@ -92,6 +92,29 @@ fn open_and_run<'a, R: Threads + Wait + Sync, G: Gate>(
     Ok(run)
 }
 
+/// The same with the finders, all of whose presses are ended, whatever came of it.
+fn run_and_end<R: Threads + Wait + Sync, G: Gate>(
+    rt: &R,
+    alloc: Global,
+    problem: &Problem,
+    plan: &Plan,
+    prover: &mut Prover,
+    windows: &mut Vec<Window>,
+    gate: &G,
+) -> Mem<RunText>
+    requires plan { IsPlan plan.now }
+    requires some { 1 ≤ plan.now.finders }
+    requires started { (book : ABook) × (goal : AnOption ℕ) × Starts problem.now book goal × (prover.old ≡ at_start problem.now plan.now.finders book goal) }
+    requires empty { windows.old.items ≡ [] }
+    ensures recorded { IfOk result (λ run. IsBeside problem.now plan.now prover.new.seen (run_value run)) }
+    ensures windows { IfOk result (λ run. AreWindows (run_value run) prover.new.seen windows.new.items) }
+{
+    let mut actors = Vec::new(alloc);
+    let done = open_and_run(rt, alloc, problem, plan, prover, &mut actors, windows, gate);
+    end_all(rt, actors);
+    done
+}
+
 /// The run of the problem beside the plan's finders, 1 to 8, each on a thread of its own, and what they published
 /// (`IsBeside`). Before each turn the prover looks at every shelf once; when it ends it asks all finders to stop; after all
 /// have ended each shelf is closed and looked at once more. The prover passes point t of the gate, as actor 0, before the
@@ -109,20 +132,8 @@ pub fn prove_with_finders<R: Threads + Wait + Sync, G: Gate>(
     ensures windows { IfOk result (λ beside. AreWindows (run_value beside.ended.run) beside.ended.shelves beside.windows) }
 {
     let mut prover = Prover::new(alloc, problem, plan.finders)?;
-    let mut actors = Vec::new(alloc);
     let mut windows = Vec::new(alloc);
-    let done = open_and_run(
-        rt,
-        alloc,
-        problem,
-        plan,
-        &mut prover,
-        &mut actors,
-        &mut windows,
-        gate,
-    );
-    end_all(rt, actors);
-    let run = done?;
+    let run = run_and_end(rt, alloc, problem, plan, &mut prover, &mut windows, gate)?;
     let ended = with_shelves(alloc, &prover, run)?;
     Ok(Beside {
         ended,
