@@ -1,5 +1,5 @@
 -- What a look at every shelf and a turn do to the looks, and when the prover sees what its windows have seen.
-use Rattle.std.proofs.Common.{◌≡◌, ◌≢◌, ◌∙◌, sym, ap, subst, refl, ℕ, zero, suc, ◌+◌, ◌-◌, ◌<◌, ◌≤◌, ◌==◌, inl, inr, List, [], ◌∷◌, ◌++◌, length, length-append, map, take, get_or, set, Option, Some, None, true, false, replicate, arith, rules}
+use Rattle.std.proofs.Common.{◌≡◌, ◌≢◌, ◌∙◌, sym, ap, subst, refl, ℕ, zero, suc, ◌+◌, ◌-◌, ◌<◌, ◌≤◌, ◌==◌, inl, inr, List, [], ◌∷◌, ◌++◌, length, length-append, map, take, get_or, set, Option, Some, None, true, false, replicate, arith}
 use Rattle.std.specs.Prelude.{◌^◌, All, Result, Ok, Err, OnOk, slice_get}
 use Rattle.std.specs.List.{AllZip}
 use Rattle.std.proofs.lemmas.List.{get_or-set_same, get_or-set_other, take_all}

@@ -1,5 +1,5 @@
 -- The phases of a run beside finders put together.
-use Rattle.std.proofs.Common.{◌≡◌, ◌∙◌, sym, ap, subst, refl, ℕ, zero, suc, ◌+◌, ◌<◌, ◌≤◌, List, [], ◌∷◌, ◌++◌, length, length-append, map, take, filter, get_or, slice_get, replicate, Option, Some, None, true, false, arith}
+use Rattle.std.proofs.Common.{◌≡◌, ◌∙◌, sym, ap, subst, refl, ℕ, zero, suc, ◌+◌, ◌<◌, ◌≤◌, List, [], ◌∷◌, ◌++◌, length, length-append, map, take, filter, get_or, slice_get, Option, Some, None, false, arith}
 use Rattle.std.specs.Prelude.{◌^◌, All, Result, Ok, Err, OnOk, option_map}
 use Rattle.std.specs.List.{AllZip, AllByRecursion}
 use Rattle.std.proofs.lemmas.List.{length-take}
@@ -33,7 +33,7 @@ use Rattle.sc_worker.specs.Finding.{IsFound}
 use Rattle.sc_worker.specs.Plans.{IsPlan, size_of_finder}
 use Rattle.sc_worker.proofs.FinderLaws.{IsPublished, finder_publishes, length_of_answers}
 use Rattle.sc_world.specs.declared.actors.Actor.{Actor}
-use Rattle.sc_world.specs.Abreast.{IsLook, seen_of, AreLooksSoFar, HaveLooked, IsAbreast}
+use Rattle.sc_world.specs.Abreast.{seen_of, AreLooksSoFar, IsAbreast}
 use Rattle.sc_world.specs.Acting.{HasOne, IsOpened, AreOpened, IsReady, Acted, Closed, AllClosed, AreOnShelves, ends_of, HasRun}
 use Rattle.sc_world.specs.Beside.{AllFound, IsBeside, column, AreLooksOfTurns, IsWindowOf, AreWindows}
 use Rattle.sc_world.specs.Printed.{all_printed}

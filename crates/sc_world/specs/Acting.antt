@@ -2,7 +2,6 @@
 use Rattle.std.specs.Prelude.{◌≡◌, ◌<◌, ◌≤◌, ◌+◌, ℕ, List, [], ◌∷◌, ◌++◌, map, length, get_or, Some, false}
 use Rattle.std.specs.List.{AllZip}
 use Rattle.sc_input_rules.specs.Problem.{Stated}
-use Rattle.sc_interp.specs.Versions.{ClaimedStructure}
 use Rattle.sc_shelf.specs.Entries.{StartsWith}
 use Rattle.sc_shelf.specs.State.{WindowState, listed, is_closed, new_press}
 use Rattle.sc_core_rules.specs.declared.row.Outcome.{Outcome}

@@ -1,4 +1,4 @@
-use Rattle.std.proofs.Common.{◌∙◌, sym, ap, arith}
+use Rattle.std.proofs.Common.{◌∙◌, arith}
 use Rattle.sc_world.proofs.AbreastLaws.{room_at_end}
 use Rattle.sc_world.proofs.BesideLaws.{all_unclosed, on_shelves}
 use Rattle.sc_world.proofs.beside.run_and_close.Goals as goal

@@ -1,4 +1,4 @@
-use Rattle.std.proofs.Common.{◌<◌, ◌^◌, ◌∙◌, ◌≡◌, arith, sym, ap, subst, length, get_or, false}
+use Rattle.std.proofs.Common.{◌<◌, ◌^◌, ◌∙◌, ◌≡◌, arith, sym, ap, subst, length, false}
 use Rattle.sc_shelf.specs.State.{WindowState, is_closed}
 use Rattle.sc_world.specs.Acting.{Closed}
 use Rattle.sc_world.specs.declared.actors.Actor.{Actor}

@@ -2,7 +2,6 @@ use Rattle.std.proofs.Common.{◌∙◌, ◌≤◌, ◌^◌, List, [], ap, subst
 use Rattle.sc_interp.specs.Versions.{ClaimedStructure}
 use Rattle.sc_shelf.specs.Entries.{StartsWith}
 use Rattle.sc_shelf.specs.State.{WindowState}
-use Rattle.sc_core.specs.State.{ProverState}
 use Rattle.sc_world.proofs.AbreastLaws.{catching_first, list_there, list_begins, catching_more, catching_all}
 use Rattle.sc_world.proofs.turns.catch_up.Goals as goal
 

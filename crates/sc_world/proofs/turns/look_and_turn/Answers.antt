@@ -1,4 +1,4 @@
-use Rattle.std.proofs.Common.{◌∙◌, List, ap, subst, sym, arith}
+use Rattle.std.proofs.Common.{◌∙◌, ap, subst, sym}
 use Rattle.std.specs.List.{AllZip}
 use Rattle.sc_shelf.specs.Entries.{StartsWith}
 use Rattle.sc_core_rules.specs.Selection.{Seen}

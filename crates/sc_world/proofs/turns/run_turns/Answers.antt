@@ -1,7 +1,5 @@
-use Rattle.std.proofs.Common.{◌≡◌, ◌∙◌, ◌<◌, ◌≤◌, sym, ap, subst, length, arith}
+use Rattle.std.proofs.Common.{◌≡◌, ◌∙◌, ◌<◌, ◌≤◌, sym, subst, length, arith}
 use Rattle.sc_input_rules.specs.Problem.{Stated}
-use Rattle.sc_core_rules.specs.Turn.{Run, Turns}
-use Rattle.sc_core.specs.State.{ProverState}
 use Rattle.sc_world.specs.Underway.{turns_left}
 use Rattle.sc_world.proofs.AbreastLaws.{looked_so_far, turn_abreast, room, fewer_left}
 use Rattle.sc_world.proofs.turns.run_turns.Goals as goal

@@ -1,4 +1,4 @@
-use Rattle.std.proofs.Common.{◌∙◌, List, ap, get_or}
+use Rattle.std.proofs.Common.{◌∙◌, ap, get_or}
 use Rattle.sc_core_rules.specs.Selection.{Seen}
 use Rattle.sc_world.proofs.AbreastLaws.{first_seen, first_within, others_seen}
 use Rattle.sc_world.proofs.turns.see_others.Goals as goal
