@@ -7,10 +7,10 @@ use Rattle.sc_steps.proofs.LineLaws.{in_whole}
 use Rattle.sc_input_rules.specs.Problem.{Stated}
 use Rattle.sc_interp.specs.declared.plain.VersionName.{VersionName}
 use Rattle.sc_interp.specs.Versions.{ClaimedStructure}
-use Rattle.sc_core_rules.specs.Selection.{Seen, IsAt, IsBetter, IsGuide, score, opening_name}
-use Rattle.sc_core_rules.proofs.DerivationLaws.{compared}
+use Rattle.sc_core_rules.specs.Selection.{Seen, IsAt, IsGuide, opening_name}
 use Rattle.sc_core_rules.proofs.NumberLaws.{numbered-suc}
 use Rattle.sc_core_rules.proofs.StepLaws.{some_both, same_some}
+use Rattle.sc_core_rules.proofs.TurnLaws.{guide_one}
 use Rattle.sc_core_laws.specs.TrueRows.{IsNamed, IsFrontOf}
 use Rattle.sc_guide.specs.Guided.{grown}
 
@@ -99,32 +99,8 @@ module _ (problem : Stated) where
 
     -- ---- the guide is one
 
-    better_total : (name other : VersionName) (v w : ClaimedStructure) → IsBetter name v other w ⊎ (name ≡ other) ⊎ IsBetter other w name v
-    better_total name other v w = by (compared (score v) (score w)) (compared name.finder other.finder) (compared name.place other.place)
-      where
-        by : (score v < score w) ⊎ (score v ≡ score w) ⊎ (score w < score v) → (name.finder < other.finder) ⊎ (name.finder ≡ other.finder) ⊎ (other.finder < name.finder)
-            → (name.place < other.place) ⊎ (name.place ≡ other.place) ⊎ (other.place < name.place) → IsBetter name v other w ⊎ (name ≡ other) ⊎ IsBetter other w name v
-        by (inl less) f p = inr (inr (inl less))
-        by (inr (inr less)) f p = inl (inl less)
-        by (inr (inl e)) (inl less) p = inl (inr (e, inl less))
-        by (inr (inl e)) (inr (inr less)) p = inr (inr (inr (sym e, inl less)))
-        by (inr (inl e)) (inr (inl f)) (inl less) = inr (inr (inr (sym e, inr (sym f, less))))
-        by (inr (inl e)) (inr (inl f)) (inr (inr less)) = inl (inr (e, inr (f, less)))
-        by (inr (inl e)) (inr (inl f)) (inr (inl g)) = inr (inl (λ i. record { finder = f i; place = g i }))
-
-    best_name : (name other : VersionName) (v w : ClaimedStructure) → IsBetter name v other w ⊎ (name ≡ other) ⊎ IsBetter other w name v
-        → ¬ IsBetter name v other w → ¬ IsBetter other w name v → name ≡ other
-    best_name name other v w (inl h) never none = absurd (never h)
-    best_name name other v w (inr (inl e)) never none = e
-    best_name name other v w (inr (inr h)) never none = absurd (none h)
-
     pub one_name : (name other : VersionName) (v w : ClaimedStructure) → IsGuide problem seen name v → IsGuide problem seen other w → name ≡ other
-    one_name name other v w (inl h) (inl k) = h.1.0 ∙ sym k.1.0
-    one_name name other v w (inl h) (inr k) = absurd (k.0 h.0)
-    one_name name other v w (inr h) (inl k) = absurd (h.0 k.0)
-    one_name name other v w (inr h) (inr k) = best_name name other v w (better_total name other v w) (k.1.1 name v h.1.0) (h.1.1 other w k.1.0)
+    one_name name other v w h k = (guide_one problem seen name other v w h k).0
 
     pub one_guide : (name other : VersionName) (v w : ClaimedStructure) → IsGuide problem seen name v → IsGuide problem seen other w → v ≡ w
-    one_guide name other v w h k =
-        let e : name ≡ other = one_name name other v w h k in
-        named_one other v w (subst (λ (n : VersionName). IsNamed problem seen n v) e (guide_named name v h)) (guide_named other w k)
+    one_guide name other v w h k = (guide_one problem seen name other v w h k).1

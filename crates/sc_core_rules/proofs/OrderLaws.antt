@@ -1,8 +1,9 @@
 -- A list in order is the only one: sites, deleted clauses, cells and nodes are each one list.
-use Rattle.std.proofs.Common.{◌≡◌, ◌∙◌, sym, subst, refl, ℕ, zero, suc, ◌⊎◌, inl, inr, List, [], ◌∷◌, arith}
+use Rattle.std.proofs.Common.{◌≡◌, ◌∙◌, sym, subst, refl, ℕ, zero, suc, ◌<◌, ◌⊎◌, inl, inr, List, [], ◌∷◌, arith}
 use Rattle.std.specs.List.{Contains, AllPairs}
 use Rattle.sc_core_rules.specs.Order.{IsBefore, AreInOrder}
 use Rattle.sc_term.proofs.ContainsLaws.{first_or_later, at_first, later}
+use Rattle.sc_core_rules.proofs.DerivationLaws.{compared}
 
 -- ---- before
 
@@ -18,6 +19,30 @@ not_both (m ∷ ms) (n ∷ ns) (inl h) (inl k) = absurd (omega arith)
 not_both (m ∷ ms) (n ∷ ns) (inl h) (inr k) = absurd (omega (arith, k.0))
 not_both (m ∷ ms) (n ∷ ns) (inr h) (inl k) = absurd (omega (arith, h.0))
 not_both (m ∷ ms) (n ∷ ns) (inr h) (inr k) = not_both ms ns h.1 k.1
+
+pub before_over : (ks ms ns : List ℕ) → IsBefore ks ms → IsBefore ms ns → IsBefore ks ns
+before_over ks ms [] h k = k
+before_over [] (m ∷ ms) (n ∷ ns) h k = tt
+before_over (k ∷ ks) [] (n ∷ ns) h j = absurd h
+before_over [] [] (n ∷ ns) h j = tt
+before_over (k ∷ ks) (m ∷ ms) (n ∷ ns) (inl h) (inl j) = inl (omega (arith, h, j))
+before_over (k ∷ ks) (m ∷ ms) (n ∷ ns) (inl h) (inr j) = inl (omega (arith, h, j.0))
+before_over (k ∷ ks) (m ∷ ms) (n ∷ ns) (inr h) (inl j) = inl (omega (arith, h.0, j))
+before_over (k ∷ ks) (m ∷ ms) (n ∷ ns) (inr h) (inr j) = inr (h.0 ∙ j.0, before_over ks ms ns h.1 j.1)
+
+-- of two lists one comes before the other, or they are one
+pub one_before : (ms ns : List ℕ) → IsBefore ms ns ⊎ (ms ≡ ns) ⊎ IsBefore ns ms
+one_before [] [] = inr (inl refl)
+one_before [] (n ∷ ns) = inl tt
+one_before (m ∷ ms) [] = inr (inr tt)
+one_before (m ∷ ms) (n ∷ ns) = by (compared m n) (one_before ms ns)
+  where
+    by : (m < n) ⊎ (m ≡ n) ⊎ (n < m) → IsBefore ms ns ⊎ (ms ≡ ns) ⊎ IsBefore ns ms → IsBefore (m ∷ ms) (n ∷ ns) ⊎ (m ∷ ms ≡ n ∷ ns) ⊎ IsBefore (n ∷ ns) (m ∷ ms)
+    by (inl less) rest = inl (inl less)
+    by (inr (inr less)) rest = inr (inr (inl less))
+    by (inr (inl e)) (inl h) = inl (inr (e, h))
+    by (inr (inl e)) (inr (inr h)) = inr (inr (inr (sym e, h)))
+    by (inr (inl e)) (inr (inl es)) = inr (inl (λ i. e i ∷ es i))
 
 -- ---- elements
 

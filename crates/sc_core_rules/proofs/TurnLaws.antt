@@ -11,7 +11,7 @@ use Rattle.sc_interp.specs.declared.plain.Truth.{Truth}
 use Rattle.sc_interp.specs.declared.plain.Truth.TheVariants as truth
 use Rattle.sc_core_rules.specs.declared.row.Cause.{Cause}
 use Rattle.sc_term.specs.declared.Clause.{Clause}
-use Rattle.sc_core_rules.specs.Order.{IsLeast}
+use Rattle.sc_core_rules.specs.Order.{IsBefore, IsLeast}
 use Rattle.sc_core_rules.specs.Book.{Book, IsSound, live, leaving_out, weight_in}
 use Rattle.sc_interp.specs.Marks.{IsMark}
 use Rattle.sc_core_rules.specs.Selection.{Seen, IsAt, IsBetter, IsGuide, IsAny, IsFalse, Selects, by_weight, score}
@@ -22,6 +22,7 @@ use Rattle.sc_term.proofs.ContainsLaws.{first_or_later}
 use Rattle.sc_core_rules.proofs.FilterLaws.{in_either, in_first, in_second}
 use Rattle.sc_core_rules.proofs.StepLaws.{some_both, same_some}
 use Rattle.sc_core_rules.proofs.DerivationLaws.{compared}
+use Rattle.sc_core_rules.proofs.OrderLaws.{one_before}
 use Rattle.sc_core_rules.proofs.SimplifyLaws.{NumbersTell, least_one}
 use Rattle.sc_core_rules.proofs.ProcessLaws.{where_case, live_tell}
 use Rattle.sc_core_rules.proofs.SoundLaws.{still_sound, filter_sub}
@@ -32,9 +33,9 @@ use Rattle.sc_core_rules.proofs.OneMeant.{sites_are_one}
 -- ---- the guide
 
 better_total : (name other : VersionName) (v w : ClaimedStructure) → IsBetter name v other w ⊎ (name ≡ other) ⊎ IsBetter other w name v
-better_total name other v w = by (compared (score v) (score w)) (compared name.finder other.finder) (compared name.place other.place)
+better_total name other v w = by (one_before (score v) (score w)) (compared name.finder other.finder) (compared name.place other.place)
   where
-    by : (score v < score w) ⊎ (score v ≡ score w) ⊎ (score w < score v) → (name.finder < other.finder) ⊎ (name.finder ≡ other.finder) ⊎ (other.finder < name.finder)
+    by : IsBefore (score v) (score w) ⊎ (score v ≡ score w) ⊎ IsBefore (score w) (score v) → (name.finder < other.finder) ⊎ (name.finder ≡ other.finder) ⊎ (other.finder < name.finder)
         → (name.place < other.place) ⊎ (name.place ≡ other.place) ⊎ (other.place < name.place) → IsBetter name v other w ⊎ (name ≡ other) ⊎ IsBetter other w name v
     by (inl less) f p = inr (inr (inl less))
     by (inr (inr less)) f p = inl (inl less)
@@ -58,7 +59,8 @@ same_version seen name v w h k =
     let both = some_both (numbered seen name.finder) _ _ h k in
     same_some (slice_get both.0 name.place) v w both.1 both.2
 
-guide_one : (problem : Stated) (seen : Seen) (name other : VersionName) (v w : ClaimedStructure) → IsGuide problem seen name v → IsGuide problem seen other w → (name ≡ other) × (v ≡ w)
+-- of the versions that are seen one is the guide
+pub guide_one : (problem : Stated) (seen : Seen) (name other : VersionName) (v w : ClaimedStructure) → IsGuide problem seen name v → IsGuide problem seen other w → (name ≡ other) × (v ≡ w)
 guide_one problem seen name other v w = where_case (λ h k. (h.0 ∙ sym k.0, h.1 ∙ sym k.1))
     (λ h k.
     let e : name ≡ other = best_name seen name other v w h.0 k.0 h.1 k.1 in

@@ -11,7 +11,7 @@ use Rattle.sc_core_rules.specs.declared.row.Cause.{Cause}
 use Rattle.sc_core_rules.specs.declared.row.Cause.TheVariants as cause
 use Rattle.sc_interp.specs.Marks.{IsMark}
 use Rattle.sc_core_rules.specs.Book.{weight_in}
-use Rattle.sc_core_rules.specs.Order.{Where, IsLeast}
+use Rattle.sc_core_rules.specs.Order.{Where, IsBefore, IsLeast}
 
 -- ---- the guide
 
@@ -23,14 +23,14 @@ Seen = List (List ClaimedStructure)
 abbrev pub IsAt : Seen → VersionName → ClaimedStructure → Type 0
 IsAt seen name v = IsSomeAnd (numbered seen name.finder) (λ versions. slice_get versions name.place ≡ Some v)
 
--- how many clauses are claimed of it
-abbrev pub score : ClaimedStructure → ℕ
-score v = length v.claims
+-- how good it is, what counts most first: how many clauses are claimed of it
+abbrev pub score : ClaimedStructure → List ℕ
+score v = length v.claims ∷ []
 
 -- its score is greater, or else its finder lesser, or else its place greater
 abbrev pub IsBetter : VersionName → ClaimedStructure → VersionName → ClaimedStructure → Type 0
 IsBetter name v other w =
-    (score w < score v)
+    IsBefore (score w) (score v)
     ⊎ ((score v ≡ score w) × ((name.finder < other.finder) ⊎ ((name.finder ≡ other.finder) × (other.place < name.place))))
 
 -- the name of the opening version

@@ -1,34 +1,23 @@
 -- A demodulator fits a term where its left side can be made the term.
-use Rattle.std.proofs.Common.{◌∙◌, sym, ap, List, get_or, Result, Ok, Err, Option, Some, None, IfOk, MatchOption, nat_eq, arith}
-use Rattle.std.specs.List.{list_any}
-use Rattle.std.proofs.lemmas.List.{append-nil}
+use Rattle.std.proofs.Common.{◌∙◌, sym, ap, List, Result, Ok, Err, Option, Some, None, IfOk, MatchOption}
 use Rattle.sc_term.specs.declared.Term.{Term}
 use Rattle.sc_term.specs.declared.Numbered.{Numbered}
-use Rattle.sc_term.specs.Term.{term_variables, term_instance, value_of}
-use Rattle.sc_term.specs.Refuted.{Atom, atom_of}
-use Rattle.sc_core_rules.specs.Paramodulation.{atom_with}
+use Rattle.sc_term.specs.Term.{term_instance, value_of}
 use Rattle.sc_core_rules.specs.Rewriting.{IsEquation, Fits}
 use Rattle.sc_core_rules.proofs.SimplifyLaws.{same_sides}
-use Rattle.sc_unify.specs.Matching.{IsMatch, HasNoMatch}
+use Rattle.sc_unify.specs.Matching.{IsTermMatch, HasNoTermMatch}
 use Rattle.sc_demod.specs.Fitting.{FitsBy}
 
-pub is_fit : (d : Numbered) (s left right : Term) (terms : List Term) → IsEquation d.clause left right → IsMatch (atom_with left) (atom_with s) terms → FitsBy d s terms
-is_fit d s left right terms e h = record {
-  left = left;
-  right = right;
-  equates = e;
-  long = omega (arith, h.long);
-  equal = sym (ap (λ (a : Atom). get_or a.args 0 s) h.equal);
-  absent = λ n less out. h.absent n (omega (arith, less)) (ap (list_any (nat_eq n)) (append-nil (term_variables left)) ∙ out);
-}
+pub is_fit : (d : Numbered) (s left right : Term) (terms : List Term) → IsEquation d.clause left right → IsTermMatch left s terms → FitsBy d s terms
+is_fit d s left right terms e h = record { left = left; right = right; equates = e; long = h.long; equal = h.equal; absent = h.absent }
 
-pub no_fit : (d : Numbered) (s left right : Term) → IsEquation d.clause left right → HasNoMatch (atom_with left) (atom_with s) → ¬ Fits d s
+pub no_fit : (d : Numbered) (s left right : Term) → IsEquation d.clause left right → HasNoTermMatch left s → ¬ Fits d s
 no_fit d s left right e none f =
     let both = same_sides f.0 f.1 left right (sym f.3 ∙ e) in
-    none (value_of f.2) (ap (λ (t : Term). atom_of (atom_with t)) (ap (term_instance f.2) (sym both.0) ∙ sym f.4))
+    none (value_of f.2) (ap (term_instance f.2) (sym both.0) ∙ sym f.4)
 
 pub fits_where : {E : Type 0} (r : Result (Option (List Term)) E) (d : Numbered) (s left right : Term) → IsEquation d.clause left right
-    → IfOk r (λ found. MatchOption found (HasNoMatch (atom_with left) (atom_with s)) (IsMatch (atom_with left) (atom_with s)))
+    → IfOk r (λ found. MatchOption found (HasNoTermMatch left s) (IsTermMatch left s))
     → IfOk r (λ found. MatchOption found (¬ Fits d s) (FitsBy d s))
 fits_where (Err x) d s left right e h = tt
 fits_where (Ok None) d s left right e h = no_fit d s left right e h

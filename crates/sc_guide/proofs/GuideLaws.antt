@@ -6,8 +6,9 @@ use Rattle.sc_term.specs.Numbering.{numbered}
 use Rattle.sc_input_rules.specs.Problem.{Stated}
 use Rattle.sc_interp.specs.declared.plain.VersionName.{VersionName}
 use Rattle.sc_interp.specs.Versions.{ClaimedStructure}
-use Rattle.sc_core_rules.specs.Order.{Where}
-use Rattle.sc_core_rules.specs.Selection.{Seen, IsAt, IsBetter, IsGuide, opening_name}
+use Rattle.sc_core_rules.specs.Order.{Where, IsBefore}
+use Rattle.sc_core_rules.specs.Selection.{Seen, IsAt, IsBetter, IsGuide, opening_name, score}
+use Rattle.sc_core_rules.proofs.OrderLaws.{not_before_itself, before_over}
 use Rattle.sc_guide.specs.Guided.{grown, version_named, IsNamed, IsKept}
 use Rattle.sc_guide.proofs.ListLaws.{numbered_at}
 use Rattle.sc_guide.proofs.SeenLaws.{next_of, named_at, opening_not_seen, not_all_empty, new_at, still_at, at_grown, counted_grown}
@@ -15,16 +16,16 @@ use Rattle.sc_guide.proofs.SeenLaws.{next_of, named_at, opening_not_seen, not_al
 -- ---- the order
 
 better_over : (n m k : VersionName) (x y z : ClaimedStructure) → IsBetter n x m y → IsBetter m y k z → IsBetter n x k z
-better_over n m k x y z (inl a) (inl b) = inl (omega (arith, a, b))
-better_over n m k x y z (inl a) (inr b) = inl (omega (arith, a, b.0))
-better_over n m k x y z (inr a) (inl b) = inl (omega (arith, a.0, b))
+better_over n m k x y z (inl a) (inl b) = inl (before_over (score z) (score y) (score x) b a)
+better_over n m k x y z (inl a) (inr b) = inl (subst (λ s. IsBefore s (score x)) b.0 a)
+better_over n m k x y z (inr a) (inl b) = inl (subst (IsBefore (score z)) (sym a.0) b)
 better_over n m k x y z (inr (e, inl f)) (inr (g, inl h)) = inr (e ∙ g, inl (omega (arith, f, h)))
 better_over n m k x y z (inr (e, inl f)) (inr (g, inr h)) = inr (e ∙ g, inl (omega (arith, f, h.0)))
 better_over n m k x y z (inr (e, inr f)) (inr (g, inl h)) = inr (e ∙ g, inl (omega (arith, f.0, h)))
 better_over n m k x y z (inr (e, inr f)) (inr (g, inr h)) = inr (e ∙ g, inr (f.0 ∙ h.0, omega (arith, f.1, h.1)))
 
 not_better : (n : VersionName) (x : ClaimedStructure) → ¬ IsBetter n x n x
-not_better n x (inl less) = omega (arith, less)
+not_better n x (inl less) = not_before_itself (score x) less
 not_better n x (inr (e, inl less)) = omega (arith, less)
 not_better n x (inr (e, inr f)) = omega (arith, f.1)
 

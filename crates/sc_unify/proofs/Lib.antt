@@ -8,6 +8,7 @@ pub mod Unifiers
 pub mod Rows
 pub mod Applying
 pub mod MatchingLaws
+pub mod FittingLaws
 pub mod JointLaws
 pub mod JointRows
 pub mod JointTerms

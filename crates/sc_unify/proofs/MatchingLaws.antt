@@ -156,7 +156,7 @@ nothing_matched bs = record { same = λ s. (λ h. (h, refl), λ h. h.0); functio
 
 -- ---- the terms that are told
 
-abbrev term_of : List Binding → Substitution
+abbrev pub term_of : List Binding → Substitution
 term_of bs n = unwrap_or (lookup bs n) (Var 0)
 
 pub filled-more : (bs : List Binding) (n : ℕ) → filled bs (n + 1) ≡ filled bs n ++ term_of bs n ∷ []
@@ -213,7 +213,7 @@ below ts h = from 0 ts h
         (all_so (λ n. n < term_width t) (λ n. n < fold max (max a (term_width t)) (map term_width ts)) (λ n less. omega (arith, at_least (max a (term_width t)) (map term_width ts), less)) (term_variables t) h.0)
         (from (max a (term_width t)) ts h.1)
 
-term_below : (t : Term) → AllByRecursion (λ n. n < term_width t) (term_variables t)
+pub term_below : (t : Term) → AllByRecursion (λ n. n < term_width t) (term_variables t)
 term_below t = term_ind (λ t. AllByRecursion (λ n. n < term_width t) (term_variables t))
     (λ n. subst (AllByRecursion (λ k. k < term_width (Var n))) (sym (variables-Var n)) (omega (arith, width-Var n), tt))
     (λ f xs h. subst (λ w. AllByRecursion (λ n. n < w) (term_variables (App f xs))) (sym (width-App f xs))
@@ -224,7 +224,7 @@ all_below : (ts : List Term) → AllByRecursion (λ t. AllByRecursion (λ n. n <
 all_below [] = tt
 all_below (t ∷ ts) = (term_below t, all_below ts)
 
-none_of : (n : ℕ) (ns : List ℕ) → list_any (nat_eq n) ns ≡ false → AllByRecursion (λ k. k ≢ n) ns
+pub none_of : (n : ℕ) (ns : List ℕ) → list_any (nat_eq n) ns ≡ false → AllByRecursion (λ k. k ≢ n) ns
 none_of n [] e = tt
 none_of n (m ∷ ms) e = by (nat_eq n m) refl e (none_of n ms)
   where

@@ -4,7 +4,7 @@ use Rattle.std.specs.List.{AllByRecursion, list_any}
 use Rattle.std.specs.Option.{unwrap_or}
 use Rattle.sc_term.specs.declared.Term.{Term, Var}
 use Rattle.sc_term.specs.declared.Literal.{Literal}
-use Rattle.sc_term.specs.Term.{joined, term_variables}
+use Rattle.sc_term.specs.Term.{joined, term_under, term_variables, term_width, term_instance}
 use Rattle.sc_term.specs.Clause.{literal_width, literal_instance}
 use Rattle.sc_term.specs.Refuted.{atom_of}
 use Rattle.sc_term.specs.Substitution.{Substitution, literal_under}
@@ -21,6 +21,16 @@ pub record IsMatch (pattern target : Literal) (terms : List Term) : Type 0 where
 
 abbrev pub HasNoMatch : Literal → Literal → Type 0
 HasNoMatch pattern target = (s : Substitution) → atom_of (literal_under s pattern) ≢ atom_of target
+
+-- the terms in place of the pattern's variables make it the target
+pub record IsTermMatch (pattern target : Term) (terms : List Term) : Type 0 where
+  pub long : length terms ≡ term_width pattern
+  pub equal : target ≡ term_instance terms pattern
+  pub absent : (n : ℕ) → n < term_width pattern → list_any (nat_eq n) (term_variables pattern) ≡ false → slice_get terms n ≡ Some (Var 0)
+
+-- no terms in place of the pattern's variables make it the target
+abbrev pub HasNoTermMatch : Term → Term → Type 0
+HasNoTermMatch pattern target = (s : Substitution) → term_under s pattern ≢ target
 
 -- ---- how it is found
 

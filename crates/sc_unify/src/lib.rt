@@ -15,6 +15,7 @@
 
 mod bound;
 mod equation;
+mod fitting;
 mod joint;
 mod limits;
 mod matching;
@@ -24,6 +25,8 @@ mod substitution;
 mod unifier;
 mod write;
 
+pub use bound::Bound;
+pub use fitting::match_term_onto;
 pub use joint::joint_terms;
 pub use matching::match_onto;
 pub use sc_term::Pair;

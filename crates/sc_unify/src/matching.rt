@@ -30,7 +30,7 @@ fn match_variable<'a>(n: u32, target: &'a Term, bound: &mut Vec<Bound<'a>>) -> M
 
 /// Gives variables of the pattern terms that make it the target. Whether there are any.
 #[cycle(matching)]
-fn match_term<'a>(pattern: &Term, target: &'a Term, bound: &mut Vec<Bound<'a>>) -> Mem<bool>
+pub fn match_term<'a>(pattern: &Term, target: &'a Term, bound: &mut Vec<Bound<'a>>) -> Mem<bool>
     ensures { IfOk result (λ can. Matches can (bindings bound.old.items) (bindings bound.new.items)
         (λ s. term_under s pattern.now ≡ target.now) (term_variables pattern.now)) }
 {
@@ -47,7 +47,11 @@ fn match_term<'a>(pattern: &Term, target: &'a Term, bound: &mut Vec<Bound<'a>>) 
 }
 
 #[cycle(matching)]
-fn match_terms<'a>(patterns: &[Term], targets: &'a [Term], bound: &mut Vec<Bound<'a>>) -> Mem<bool>
+fn match_terms<'a>(
+    patterns: &[Term],
+    targets: &'a [Term],
+    bound: &mut Vec<Bound<'a>>,
+) -> Mem<bool>
     ensures { IfOk result (λ can. Matches can (bindings bound.old.items) (bindings bound.new.items)
         (λ s. map (term_under s) patterns.now ≡ targets.now) (joined (map term_variables patterns.now))) }
 {
@@ -85,7 +89,7 @@ fn filling(alloc: Global, bound: &[Bound], variable: u64) -> Mem<Term>
 }
 
 /// The terms of the variables below the width, variable 0 for one that was given none.
-fn fill(alloc: Global, bound: &[Bound], width: u64) -> Mem<List<Term>>
+pub fn fill(alloc: Global, bound: &[Bound], width: u64) -> Mem<List<Term>>
     ensures { IfOk result (λ terms. terms ≡ filled (bindings bound.now) width) }
 {
     let mut terms = List::new(alloc);

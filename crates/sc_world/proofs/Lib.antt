@@ -6,7 +6,6 @@ pub mod InlineLaws
 pub mod EndLaws
 pub mod MarkLaws
 pub mod RecordLaws
-pub mod OneGuide
 pub mod OneText
 pub mod InlineLooks
 pub mod OneInline

@@ -25,7 +25,7 @@ use Rattle.sc_text_run_rules.specs.declared.run.MarkRow.{MarkRow}
 use Rattle.sc_text_run_rules.specs.RunValue.{VersionValue, RunValue}
 use Rattle.sc_world.specs.Recorded.{IsTold, IsMarkOf, AreMarks, TellsProof, TellsNoProof, TellsEnd, Tells}
 use Rattle.sc_world.specs.OneText.{AreAlike, lengths_of, TextIsOne}
-use Rattle.sc_world.proofs.OneGuide.{guide_is_one}
+use Rattle.sc_core_rules.proofs.TurnLaws.{guide_one}
 
 -- ---- rows with the same lengths tell the same looks
 
@@ -137,7 +137,7 @@ module _ (problem : Stated) (versions : Seen) (run : Run) (lines others : List L
 
     same_marks : rows ≡ marks
     same_marks =
-        let guide = guide_is_one problem versions h.name k.name h.guide k.guide h.guides k.guides in
+        let guide = guide_one problem versions h.name k.name h.guide k.guide h.guides k.guides in
         marks_are_one k.name k.guide others rows marks
         (subst (λ (ls : List Line). AreMarks k.name k.guide ls rows) same_lines
         (subst (λ (v : ClaimedStructure). AreMarks k.name v lines rows) guide.1 (subst (λ (n : VersionName). AreMarks n h.guide lines rows) guide.0 h.marks)))
