@@ -17,8 +17,9 @@ use Rattle.sc_core_rules.specs.Book.{Book, next_number, weight_in, with_derived}
 use Rattle.sc_core_rules.specs.Processing.{with_kept, Sweeps, Processes}
 use Rattle.sc_core_rules.specs.Start.{OpensBook, Starts}
 use Rattle.sc_core_rules.specs.Selection.{Seen}
+use Rattle.sc_core_rules.specs.Sites.{Site}
 use Rattle.sc_core_rules.specs.WorkList.{Item, Finish, Done, Found, TooMany, Works, done, too_many, nothing, found, goes_on}
-use Rattle.sc_core_rules.specs.Turn.{Run, Infer, Turns, with_given, with_end, outcome_of, goal_of}
+use Rattle.sc_core_rules.specs.Turn.{Run, Infer, Turns, IsPassedOver, with_given, with_end, outcome_of, goal_of}
 use Rattle.sc_core_rules.specs.Run.{Goes, GoesOver, IsRun, started}
 use Rattle.sc_core.specs.Counts.{HasKeptAll, IsCounted}
 use Rattle.sc_core_rules.proofs.ProcessLaws.{Becomes}
@@ -83,15 +84,15 @@ module _ (problem : Stated) where
 
   -- ---- the work list
 
-  works_few : (turn : ℕ) (given : Numbered) (usable : List Numbered) (n : ℕ) (book new : Book) (items : List Item) (f : Finish)
-      → Works problem turn given usable n book items new f → length new.kept ≤ length book.kept + n
-  works_few turn given usable n book new items f done = omega arith
-  works_few turn given usable n book new items f too_many = omega arith
-  works_few turn given usable n book new items f (nothing h w) = let few = works_few turn given usable _ book new _ f w in omega (arith, few)
-  works_few turn given usable n book new items f (found m o gives p e) = let few = processes_few book m.lines turn new o p in omega (arith, few)
-  works_few turn given usable n book new items f (goes_on {mid = mid} m o gives p e w) =
+  works_few : (turn : ℕ) (given : Numbered) (usable : List Numbered) (passed : Site → Type 0) (n : ℕ) (book new : Book) (items : List Item) (f : Finish)
+      → Works problem turn given usable passed n book items new f → length new.kept ≤ length book.kept + n
+  works_few turn given usable passed n book new items f done = omega arith
+  works_few turn given usable passed n book new items f too_many = omega arith
+  works_few turn given usable passed n book new items f (nothing h w) = let few = works_few turn given usable passed _ book new _ f w in omega (arith, few)
+  works_few turn given usable passed n book new items f (found m o gives p e) = let few = processes_few book m.lines turn new o p in omega (arith, few)
+  works_few turn given usable passed n book new items f (goes_on {mid = mid} m o gives p e w) =
       let few = processes_few book m.lines turn mid o p in
-      let more = works_few turn given usable _ mid new _ f w in
+      let more = works_few turn given usable passed _ mid new _ f w in
       omega (arith, few, more)
 
   abbrev EndsSo : Book → Finish → Type 0
@@ -99,14 +100,14 @@ module _ (problem : Stated) where
   EndsSo book (Found n) = Unit {0}
   EndsSo book TooMany = Unit {0}
 
-  works_keeps_all : (turn : ℕ) (given : Numbered) (usable : List Numbered) (n : ℕ) (book new : Book) (items : List Item) (f : Finish) → HasKeptAll book
-      → Works problem turn given usable n book items new f → EndsSo new f
-  works_keeps_all turn given usable n book new items f all_kept done = all_kept
-  works_keeps_all turn given usable n book new items f all_kept too_many = tt
-  works_keeps_all turn given usable n book new items f all_kept (nothing h w) = works_keeps_all turn given usable _ book new _ f all_kept w
-  works_keeps_all turn given usable n book new items f all_kept (found m o gives p e) = tt
-  works_keeps_all turn given usable n book new items f all_kept (goes_on {mid = mid} m o gives p e w) =
-      works_keeps_all turn given usable _ mid new _ f (processes_keeps_all book m.lines turn mid o all_kept e p) w
+  works_keeps_all : (turn : ℕ) (given : Numbered) (usable : List Numbered) (passed : Site → Type 0) (n : ℕ) (book new : Book) (items : List Item) (f : Finish) → HasKeptAll book
+      → Works problem turn given usable passed n book items new f → EndsSo new f
+  works_keeps_all turn given usable passed n book new items f all_kept done = all_kept
+  works_keeps_all turn given usable passed n book new items f all_kept too_many = tt
+  works_keeps_all turn given usable passed n book new items f all_kept (nothing h w) = works_keeps_all turn given usable passed _ book new _ f all_kept w
+  works_keeps_all turn given usable passed n book new items f all_kept (found m o gives p e) = tt
+  works_keeps_all turn given usable passed n book new items f all_kept (goes_on {mid = mid} m o gives p e w) =
+      works_keeps_all turn given usable passed _ mid new _ f (processes_keeps_all book m.lines turn mid o all_kept e p) w
 
   -- ---- a turn
 
@@ -131,11 +132,11 @@ module _ (problem : Stated) where
 
   infer_counted : (old : Run) (seen : Seen) (new : Run) → old.ended ≡ None → length old.given < problem.params.max_given → length old.book.kept < problem.params.max_kept → IsCounted problem old → Infer problem (length old.given + 1) old seen new → IsCounted problem new
   infer_counted old seen new going room space h k =
-      let all_kept : EndsSo k.book k.finish = works_keeps_all (length old.given + 1) k.given (with_given old.book k.given).usable 100000 (with_given old.book k.given) k.book _ k.finish (h.all_kept going) k.works in
+      let all_kept : EndsSo k.book k.finish = works_keeps_all (length old.given + 1) k.given (with_given old.book k.given).usable IsPassedOver 100000 (with_given old.book k.given) k.book _ k.finish (h.all_kept going) k.works in
       subst (IsCounted problem) (sym k.goes_to) (record {
         all_kept = λ e. finish_keeps_all (length old.given + 1) k.book k.finish all_kept e;
         few_given = omega (arith, length-append old.given, room);
-        few_kept = (let few = works_few (length old.given + 1) k.given (with_given old.book k.given).usable 100000 (with_given old.book k.given) k.book _ k.finish k.works in omega (arith, few, space));
+        few_kept = (let few = works_few (length old.given + 1) k.given (with_given old.book k.given).usable IsPassedOver 100000 (with_given old.book k.given) k.book _ k.finish k.works in omega (arith, few, space));
         goal = λ e. finish_goal (length old.given + 1) k.finish e;
       })
 

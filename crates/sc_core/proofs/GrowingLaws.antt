@@ -12,8 +12,9 @@ use Rattle.sc_core_rules.specs.declared.fate.Processed.{Processed}
 use Rattle.sc_core_rules.specs.Book.{Book, next_number, numbered_clauses}
 use Rattle.sc_core_rules.specs.Processing.{with_kept, Sweeps, Keeps, MeetsFate, Processes}
 use Rattle.sc_core_rules.specs.Selection.{Seen}
+use Rattle.sc_core_rules.specs.Sites.{Site}
 use Rattle.sc_core_rules.specs.WorkList.{Item, Finish, Works, done, too_many, nothing, found, goes_on}
-use Rattle.sc_core_rules.specs.Turn.{Run, Infer, Turns, with_given}
+use Rattle.sc_core_rules.specs.Turn.{Run, Infer, Turns, IsPassedOver, with_given}
 use Rattle.sc_core_rules.specs.Run.{IsPrefixOf}
 use Rattle.sc_core_rules.proofs.ProcessLaws.{Becomes}
 use Rattle.sc_core_rules.proofs.SoundLaws.{StandsIn}
@@ -67,19 +68,19 @@ module _ (problem : Stated) where
   processes_extend : (old : Book) (lines : List Line) (turn : ℕ) (new : Book) (out : Processed) → Processes problem old lines turn new out → Extends old new
   processes_extend old lines turn new out h = meets_extend old h.clause h.simplified turn new out h.fated
 
-  works_extend : (turn : ℕ) (given : Numbered) (usable : List Numbered) (n : ℕ) (book new : Book) (items : List Item) (f : Finish)
-      → Works problem turn given usable n book items new f → Extends book new
-  works_extend turn given usable n book new items f done = stays book book refl
-  works_extend turn given usable n book new items f too_many = stays book book refl
-  works_extend turn given usable n book new items f (nothing h w) = works_extend turn given usable _ book new _ f w
-  works_extend turn given usable n book new items f (found m o gives p e) = processes_extend book m.lines turn new o p
-  works_extend turn given usable n book new items f (goes_on {mid = mid} m o gives p e w) =
-      further book mid new (processes_extend book m.lines turn mid o p) (works_extend turn given usable _ mid new _ f w)
+  works_extend : (turn : ℕ) (given : Numbered) (usable : List Numbered) (passed : Site → Type 0) (n : ℕ) (book new : Book) (items : List Item) (f : Finish)
+      → Works problem turn given usable passed n book items new f → Extends book new
+  works_extend turn given usable passed n book new items f done = stays book book refl
+  works_extend turn given usable passed n book new items f too_many = stays book book refl
+  works_extend turn given usable passed n book new items f (nothing h w) = works_extend turn given usable passed _ book new _ f w
+  works_extend turn given usable passed n book new items f (found m o gives p e) = processes_extend book m.lines turn new o p
+  works_extend turn given usable passed n book new items f (goes_on {mid = mid} m o gives p e w) =
+      further book mid new (processes_extend book m.lines turn mid o p) (works_extend turn given usable passed _ mid new _ f w)
 
   infer_extends : (turn : ℕ) (old : Run) (seen : Seen) (new : Run) → Infer problem turn old seen new → Extends old.book new.book
   infer_extends turn old seen new h =
       subst (λ (r : Run). Extends old.book r.book) (sym h.goes_to)
-      (works_extend turn h.given (with_given old.book h.given).usable 100000 (with_given old.book h.given) h.book _ h.finish h.works)
+      (works_extend turn h.given (with_given old.book h.given).usable IsPassedOver 100000 (with_given old.book h.given) h.book _ h.finish h.works)
 
   turns_extend : (old : Run) (seen : Seen) (new : Run) → Turns problem old seen new → Extends old.book new.book
   turns_extend old seen new =

@@ -29,13 +29,16 @@ use Rattle.sc_core.specs.Items.{HasClause, IsWorked}
 
 -- ---- an item is worked
 
-module _ (problem : Stated) (turn : ℕ) (given : Numbered) (usable : List Numbered) (old : Book) (waiting : List ℕ) where
-  pub nothing_given : (site : Site) → IsConclusion given usable site None → IsWorked problem turn given usable old waiting (At site) old waiting None
-  nothing_given site none = inl ((λ made gives. none gives.0 made gives.1 gives.2), (λ i. old), (λ i. waiting))
+module _ (problem : Stated) (turn : ℕ) (given : Numbered) (usable : List Numbered) (passed : Site → Type 0) (old : Book) (waiting : List ℕ) where
+  pub nothing_given : (site : Site) → IsConclusion given usable site None → IsWorked problem turn given usable passed old waiting (At site) old waiting None
+  nothing_given site none = inl (never, (λ i. old), (λ i. waiting))
+    where
+      never : (made : Derived) → ¬ Gives problem old given usable passed (At site) made
+      never made (kept, gives) = none gives.0 made gives.1 gives.2
 
-  pub made_processed : (item : Item) (made : Made) (new : Book) (out : Processed) (joined : List ℕ) → Gives problem old given usable item (derived_of made)
+  pub made_processed : (item : Item) (made : Made) (new : Book) (out : Processed) (joined : List ℕ) → Gives problem old given usable passed item (derived_of made)
       → Processes problem old made.lines turn new out → joined ≡ waiting ++ out.again → (found : Option ℕ) → MatchOption found ((k : ℕ) → out.fate ≢ Empty k) (λ k. out.fate ≡ Empty k)
-      → IsWorked problem turn given usable old waiting item new joined found
+      → IsWorked problem turn given usable passed old waiting item new joined found
   made_processed item made new out joined gives processes join None fate =
       inr (out, record { made = derived_of made; gives = gives; processes = processes }, fate, join)
   made_processed item made new out joined gives processes join (Some k) fate =
@@ -73,13 +76,13 @@ pub ends_with : (n : ℕ) (c : Clause) (lines : List Line) → lines ≡ input_l
 ends_with n c lines e = ap last_clause e
 
 -- the clause by its `input` line
-pub returned_gives : (problem : Stated) (book : Book) (given : Numbered) (usable : List Numbered) (n : ℕ) (made : Made)
-    → numbered (numbered_clauses problem book) n ≡ Some made.clause → made.lines ≡ input_line n made.clause ∷ [] → Gives problem book given usable (Again n) (derived_of made)
-returned_gives problem book given usable n made stands e = (made.clause, stands, (λ i. record { clause = made.clause; lines = e i }))
+pub returned_gives : (problem : Stated) (book : Book) (given : Numbered) (usable : List Numbered) (passed : Site → Type 0) (n : ℕ) (made : Made)
+    → numbered (numbered_clauses problem book) n ≡ Some made.clause → made.lines ≡ input_line n made.clause ∷ [] → Gives problem book given usable passed (Again n) (derived_of made)
+returned_gives problem book given usable passed n made stands e = (made.clause, stands, (λ i. record { clause = made.clause; lines = e i }))
 
 -- follows from the clauses
-pub returned_steps : (problem : Stated) (book : Book) (given : Numbered) (usable : List Numbered) (n : ℕ) (made : Made)
-    → Gives problem book given usable (Again n) (derived_of made) → AreSteps (numbered_clauses problem book) made.lines
-returned_steps problem book given usable n made h =
+pub returned_steps : (problem : Stated) (book : Book) (given : Numbered) (usable : List Numbered) (passed : Site → Type 0) (n : ℕ) (made : Made)
+    → Gives problem book given usable passed (Again n) (derived_of made) → AreSteps (numbered_clauses problem book) made.lines
+returned_steps problem book given usable passed n made h =
     subst (AreSteps (numbered_clauses problem book)) (sym (ap (λ (d : Derived). d.lines) h.2))
     (steps_push (numbered_clauses problem book) [] (input_line n h.0) (λ k less. absurd (omega (arith, less))) h.1)

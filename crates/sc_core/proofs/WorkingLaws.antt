@@ -19,37 +19,37 @@ use Rattle.sc_core.specs.Items.{AreUsable, IsSiteOf, IsWorked}
 
 -- ---- one item
 
-module _ (problem : Stated) (turn : ℕ) (given : Numbered) (usable : List Numbered) (n : ℕ) (old mid : Book) (waiting joined : List ℕ) (item : Item) (front : List Item) where
+module _ (problem : Stated) (turn : ℕ) (given : Numbered) (usable : List Numbered) (passed : Site → Type 0) (n : ℕ) (old mid : Book) (waiting joined : List ℕ) (item : Item) (front : List Item) where
   -- the numbers that come back stand at the end of the list
   at_the_end : (again : List ℕ) → joined ≡ waiting ++ again → front ++ map Again joined ≡ front ++ map Again waiting ++ map Again again
   at_the_end again e =
       ap (λ (ns : List ℕ). front ++ map Again ns) e ∙ ap (λ (items : List Item). front ++ items) (map-append Again waiting again)
       ∙ sym (append_assoc front (map Again waiting) (map Again again))
 
-  goes : (new : Book) (finish : Finish) → IsWorked problem turn given usable old waiting item mid joined None
-      → Works problem turn given usable n mid (front ++ map Again joined) new finish → Works problem turn given usable (suc n) old (item ∷ (front ++ map Again waiting)) new finish
+  goes : (new : Book) (finish : Finish) → IsWorked problem turn given usable passed old waiting item mid joined None
+      → Works problem turn given usable passed n mid (front ++ map Again joined) new finish → Works problem turn given usable passed (suc n) old (item ∷ (front ++ map Again waiting)) new finish
   goes new finish (inl h) more =
       nothing h.0
-      (subst (λ (b : Book). Works problem turn given usable n b (front ++ map Again waiting) new finish) h.1
-      (subst (λ (ns : List ℕ). Works problem turn given usable n mid (front ++ map Again ns) new finish) h.2 more))
+      (subst (λ (b : Book). Works problem turn given usable passed n b (front ++ map Again waiting) new finish) h.1
+      (subst (λ (ns : List ℕ). Works problem turn given usable passed n mid (front ++ map Again ns) new finish) h.2 more))
   goes new finish (inr h) more =
       goes_on h.1.made h.0 h.1.gives h.1.processes h.2
-      (subst (λ (items : List Item). Works problem turn given usable n mid items new finish) (at_the_end h.0.again h.3) more)
+      (subst (λ (items : List Item). Works problem turn given usable passed n mid items new finish) (at_the_end h.0.again h.3) more)
 
-  ends : (k : ℕ) → IsWorked problem turn given usable old waiting item mid joined (Some k) → Works problem turn given usable (suc n) old (item ∷ (front ++ map Again waiting)) mid (Found k)
+  ends : (k : ℕ) → IsWorked problem turn given usable passed old waiting item mid joined (Some k) → Works problem turn given usable passed (suc n) old (item ∷ (front ++ map Again waiting)) mid (Found k)
   ends k h = found h.1.made h.0 h.1.gives h.1.processes h.2
 
 -- ---- the state of the work
 
 -- of these items, at most so many, the rest is left, of which so many may be worked: whatever the work of the rest
 -- gives, the work of all gives
-pub record Reaches (problem : Stated) (turn : ℕ) (given : Numbered) (usable : List Numbered) (most : ℕ) (start : Book) (all : List Item) (left : ℕ) (book : Book) (rest : List Item) : Type 0 where
-  pub back : (new : Book) (finish : Finish) → Works problem turn given usable left book rest new finish → Works problem turn given usable most start all new finish
+pub record Reaches (problem : Stated) (turn : ℕ) (given : Numbered) (usable : List Numbered) (passed : Site → Type 0) (most : ℕ) (start : Book) (all : List Item) (left : ℕ) (book : Book) (rest : List Item) : Type 0 where
+  pub back : (new : Book) (finish : Finish) → Works problem turn given usable passed left book rest new finish → Works problem turn given usable passed most start all new finish
 
 -- nothing is worked yet
-pub starts : (problem : Stated) (turn : ℕ) (given : Numbered) (usable : List Numbered) (most : ℕ) (book : Book) (all : List Item)
-    → Reaches problem turn given usable most book all most book all
-starts problem turn given usable most book all = record { back = λ new finish h. h }
+pub starts : (problem : Stated) (turn : ℕ) (given : Numbered) (usable : List Numbered) (passed : Site → Type 0) (most : ℕ) (book : Book) (all : List Item)
+    → Reaches problem turn given usable passed most book all most book all
+starts problem turn given usable passed most book all = record { back = λ new finish h. h }
 
 -- two clauses more for each item have numbers
 pub still_few : (before after : Stated) (old new : Book) (left : ℕ) → length before.inputs + length old.derived + 2 * left + 2 < 2 ^ 32 → left ≢ 0 → after ≡ before
@@ -57,46 +57,46 @@ pub still_few : (before after : Stated) (old new : Book) (left : ℕ) → length
 still_few before after old new left few some same two = let inputs : length after.inputs ≡ length before.inputs = ap (λ (p : Stated). length p.inputs) same in omega (arith, few, some, two, inputs)
 
 module _ {problem : Stated} {turn : ℕ} {given : Numbered} {usable : List Numbered} {most : ℕ} {start : Book} {all : List Item} {left : ℕ} {book : Book} {rest : List Item}
-    (going : Reaches problem turn given usable most start all left book rest) where
+    (going : Reaches problem turn given usable passed most start all left book rest) where
   abbrev Given : Book → Finish → Type 0
-  Given new finish = Works problem turn given usable most start all new finish
+  Given new finish = Works problem turn given usable passed most start all new finish
 
   pub all_done : rest ≡ [] → Given book Done
-  all_done none = going.back book Done (subst (λ (items : List Item). Works problem turn given usable left book items book Done) (sym none) done)
+  all_done none = going.back book Done (subst (λ (items : List Item). Works problem turn given usable passed left book items book Done) (sym none) done)
 
-  pub goes_to : (items : List Item) → rest ≡ items → (other : Stated) → other ≡ problem → (new : Book) (finish : Finish) → Works other turn given usable left book items new finish → Given new finish
+  pub goes_to : (items : List Item) → rest ≡ items → (other : Stated) → other ≡ problem → (new : Book) (finish : Finish) → Works other turn given usable passed left book items new finish → Given new finish
   goes_to items e other same new finish h =
       going.back new finish
-      (subst (λ (p : Stated). Works p turn given usable left book rest new finish) same
-      (subst (λ (items : List Item). Works other turn given usable left book items new finish) (sym e) h))
+      (subst (λ (p : Stated). Works p turn given usable passed left book rest new finish) same
+      (subst (λ (items : List Item). Works other turn given usable passed left book items new finish) (sym e) h))
 
   module _ (item : Item) (front : List Item) (waiting : List ℕ) (opened : rest ≡ item ∷ (front ++ map Again waiting)) where
     pub one_too_many : left ≡ 0 → Given book TooMany
     one_too_many none = going.back book TooMany
-        (subst (λ (items : List Item). Works problem turn given usable left book items book TooMany) (sym opened)
-        (subst (λ (n : ℕ). Works problem turn given usable n book (item ∷ (front ++ map Again waiting)) book TooMany) (sym none) too_many))
+        (subst (λ (items : List Item). Works problem turn given usable passed left book items book TooMany) (sym opened)
+        (subst (λ (n : ℕ). Works problem turn given usable passed n book (item ∷ (front ++ map Again waiting)) book TooMany) (sym none) too_many))
 
     module _ (some : left ≢ 0) (other : Stated) (same : other ≡ problem) (new : Book) (joined : List ℕ) (told : Option ℕ)
-        (worked : IsWorked other turn given usable book waiting item new joined told) where
+        (worked : IsWorked other turn given usable passed book waiting item new joined told) where
       counted : suc (left - 1) ≡ left
       counted = omega (arith, some)
 
-      worked_as : (outcome : Option ℕ) → told ≡ outcome → IsWorked problem turn given usable book waiting item new joined outcome
+      worked_as : (outcome : Option ℕ) → told ≡ outcome → IsWorked problem turn given usable passed book waiting item new joined outcome
       worked_as outcome e =
-          subst (λ (o : Option ℕ). IsWorked problem turn given usable book waiting item new joined o) e
-          (subst (λ (p : Stated). IsWorked p turn given usable book waiting item new joined told) same worked)
+          subst (λ (o : Option ℕ). IsWorked problem turn given usable passed book waiting item new joined o) e
+          (subst (λ (p : Stated). IsWorked p turn given usable passed book waiting item new joined told) same worked)
 
       -- the work of the rest after this one
-      opens : (last : Book) (finish : Finish) → Works problem turn given usable (suc (left - 1)) book (item ∷ (front ++ map Again waiting)) last finish → Given last finish
+      opens : (last : Book) (finish : Finish) → Works problem turn given usable passed (suc (left - 1)) book (item ∷ (front ++ map Again waiting)) last finish → Given last finish
       opens last finish h = going.back last finish
-          (subst (λ (items : List Item). Works problem turn given usable left book items last finish) (sym opened)
-          (subst (λ (n : ℕ). Works problem turn given usable n book (item ∷ (front ++ map Again waiting)) last finish) counted h))
+          (subst (λ (items : List Item). Works problem turn given usable passed left book items last finish) (sym opened)
+          (subst (λ (n : ℕ). Works problem turn given usable passed n book (item ∷ (front ++ map Again waiting)) last finish) counted h))
 
       pub one_found : (k : ℕ) → told ≡ Some k → Given new (Found k)
-      one_found k e = opens new (Found k) (ends problem turn given usable (left - 1) book new waiting joined item front k (worked_as (Some k) e))
+      one_found k e = opens new (Found k) (ends problem turn given usable passed (left - 1) book new waiting joined item front k (worked_as (Some k) e))
 
-      pub one_worked : told ≡ None → Reaches problem turn given usable most start all (left - 1) new (front ++ map Again joined)
-      one_worked e = record { back = λ last finish more. opens last finish (goes problem turn given usable (left - 1) book new waiting joined item front last finish (worked_as None e) more) }
+      pub one_worked : told ≡ None → Reaches problem turn given usable passed most start all (left - 1) new (front ++ map Again joined)
+      one_worked e = record { back = λ last finish more. opens last finish (goes problem turn given usable passed (left - 1) book new waiting joined item front last finish (worked_as None e) more) }
 
 -- ---- the sites
 

@@ -31,16 +31,16 @@ abbrev pub HasClause : List Clause → ℕ → Type 0
 HasClause clauses n = (c : Clause) × (numbered clauses n ≡ Some c)
 
 -- the item's conclusion is processed, with this outcome
-pub record IsProcessed (problem : Stated) (turn : ℕ) (given : Numbered) (usable : List Numbered) (old : Book) (item : Item) (new : Book) (out : Processed) : Type 0 where
+pub record IsProcessed (problem : Stated) (turn : ℕ) (given : Numbered) (usable : List Numbered) (passed : Site → Type 0) (old : Book) (item : Item) (new : Book) (out : Processed) : Type 0 where
   pub made : Derived
-  pub gives : Gives problem old given usable item made
+  pub gives : Gives problem old given usable passed item made
   pub processes : Processes problem old made.lines turn new out
 
 -- the item is worked: it gives nothing, and the book and the numbers that wait stay; or its conclusion is processed, and
 -- the numbers that come back join the end of those that wait. The number of the empty clause is told, if that was found
-abbrev pub IsWorked : Stated → ℕ → Numbered → List Numbered → Book → List ℕ → Item → Book → List ℕ → Option ℕ → Type 0
-IsWorked problem turn given usable old waiting item new joined None =
-    (((made : Derived) → ¬ Gives problem old given usable item made) × (new ≡ old) × (joined ≡ waiting))
-    ⊎ ((out : Processed) × IsProcessed problem turn given usable old item new out × ((k : ℕ) → out.fate ≢ Empty k) × (joined ≡ waiting ++ out.again))
-IsWorked problem turn given usable old waiting item new joined (Some k) =
-    (out : Processed) × IsProcessed problem turn given usable old item new out × (out.fate ≡ Empty k)
+abbrev pub IsWorked : Stated → ℕ → Numbered → List Numbered → (Site → Type 0) → Book → List ℕ → Item → Book → List ℕ → Option ℕ → Type 0
+IsWorked problem turn given usable passed old waiting item new joined None =
+    (((made : Derived) → ¬ Gives problem old given usable passed item made) × (new ≡ old) × (joined ≡ waiting))
+    ⊎ ((out : Processed) × IsProcessed problem turn given usable passed old item new out × ((k : ℕ) → out.fate ≢ Empty k) × (joined ≡ waiting ++ out.again))
+IsWorked problem turn given usable passed old waiting item new joined (Some k) =
+    (out : Processed) × IsProcessed problem turn given usable passed old item new out × (out.fate ≡ Empty k)

@@ -8,7 +8,7 @@ use Rattle.sc_core_rules.specs.Book.{Book}
 use Rattle.sc_core_rules.specs.Order.{Where}
 use Rattle.sc_core_rules.specs.Sites.{Site, AreSites}
 use Rattle.sc_core_rules.specs.WorkList.{At, Finish, Works}
-use Rattle.sc_core_rules.specs.Turn.{Run, with_given, outcome_of, goal_of}
+use Rattle.sc_core_rules.specs.Turn.{Run, IsPassedOver, with_given, outcome_of, goal_of}
 use Rattle.sc_core.specs.declared.choosing.GivenChoice.{GivenChoice}
 use Rattle.sc_core.specs.declared.turning.Running.{Running}
 
@@ -29,7 +29,7 @@ Stops problem run (Some o) =
 pub record AreWorked (problem : Stated) (turn : ℕ) (given : Numbered) (old new : Book) (finish : Finish) : Type 0 where
   pub sites : List Site
   pub are_sites : AreSites problem.flags given old.usable 100001 sites
-  pub works : Works problem turn given old.usable 100000 old (map At sites) new finish
+  pub works : Works problem turn given old.usable IsPassedOver 100000 old (map At sites) new finish
 
 -- the chosen clause is given in this turn: it moves to usable, its row is written, and all its sites are worked
 pub record IsGiven (problem : Stated) (turn : ℕ) (choice : GivenChoice) (old new : Run) : Type 0 where

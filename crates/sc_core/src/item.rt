@@ -7,6 +7,7 @@ ghost use Rattle.sc_term.specs.Numbering.{numbered};
 ghost use Rattle.sc_term.specs.Proof.{AreSteps};
 ghost use Rattle.sc_core_rules.specs.Book.{numbered_clauses};
 ghost use Rattle.sc_core_rules.specs.Inference.{derived_of};
+ghost use Rattle.sc_core_rules.specs.Turn.{IsPassedOver};
 ghost use Rattle.sc_core_rules.specs.WorkList.{Item as AnItem, At, Again, Gives};
 ghost use Rattle.sc_core_rules.specs.declared.fate.Fate.TheVariants.{Empty};
 ghost use Rattle.sc_core_sites.specs.Sites.{site_of, IsConclusion};
@@ -38,7 +39,7 @@ fn conclusion(alloc: Global, book: &Book, given: &Numbered, site: &Site) -> Mem<
 fn returned(alloc: Global, book: &Book, n: u32) -> Mem<Made>
     requires whole { book.now.whole ≡ true }
     requires there { HasClause (numbered_clauses book.now.problem book.now.book) n }
-    ensures { IfOk result (λ made. (given : ANumbered) (usable : AList ANumbered) → Gives book.now.problem book.now.book given usable (Again n) (derived_of made)) }
+    ensures { IfOk result (λ made. (given : ANumbered) (usable : AList ANumbered) → Gives book.now.problem book.now.book given usable IsPassedOver (Again n) (derived_of made)) }
 {
     book.keeps();
     let clause = copy(alloc, book.clause(n))?;
@@ -84,8 +85,8 @@ fn process_made(
     requires steps { AreSteps (numbered_clauses book.old.problem book.old.book) made.lines }
     requires few { length book.old.problem.inputs + length book.old.book.derived + 2 < 2 ^ 32 }
     requires there { All (HasClause (numbered_clauses book.old.problem book.old.book)) waiting.old.items }
-    ensures worked { IfOk result (λ found. (given : ANumbered) (usable : AList ANumbered) (item : AnItem) → Gives book.old.problem book.old.book given usable item (derived_of made)
-        → IsWorked book.old.problem turn given usable book.old.book waiting.old.items item book.new.book waiting.new.items found) }
+    ensures worked { IfOk result (λ found. (given : ANumbered) (usable : AList ANumbered) (item : AnItem) → Gives book.old.problem book.old.book given usable IsPassedOver item (derived_of made)
+        → IsWorked book.old.problem turn given usable IsPassedOver book.old.book waiting.old.items item book.new.book waiting.new.items found) }
     ensures grows { OnOk result ((n : ℕ) (c : AClause) → numbered (numbered_clauses book.old.problem book.old.book) n ≡ Some c
         → numbered (numbered_clauses book.new.problem book.new.book) n ≡ Some c) }
     ensures there { OnOk result (All (HasClause (numbered_clauses book.new.problem book.new.book)) waiting.new.items) }
@@ -113,7 +114,7 @@ pub fn work_site(
     requires few { length book.old.problem.inputs + length book.old.book.derived + 2 < 2 ^ 32 }
     requires there { All (HasClause (numbered_clauses book.old.problem book.old.book)) waiting.old.items }
     ensures worked { IfOk result (λ found. (usable : AList ANumbered) → IsSiteOf (numbered_clauses book.old.problem book.old.book) given.now usable (site_of site.now)
-        → IsWorked book.old.problem turn given.now usable book.old.book waiting.old.items (At (site_of site.now)) book.new.book waiting.new.items found) }
+        → IsWorked book.old.problem turn given.now usable IsPassedOver book.old.book waiting.old.items (At (site_of site.now)) book.new.book waiting.new.items found) }
     ensures grows { OnOk result ((n : ℕ) (c : AClause) → numbered (numbered_clauses book.old.problem book.old.book) n ≡ Some c
         → numbered (numbered_clauses book.new.problem book.new.book) n ≡ Some c) }
     ensures there { OnOk result (All (HasClause (numbered_clauses book.new.problem book.new.book)) waiting.new.items) }
@@ -143,7 +144,7 @@ pub fn work_again(
     requires few { length book.old.problem.inputs + length book.old.book.derived + 2 < 2 ^ 32 }
     requires there { All (HasClause (numbered_clauses book.old.problem book.old.book)) waiting.old.items }
     ensures worked { IfOk result (λ found. (given : ANumbered) (usable : AList ANumbered)
-        → IsWorked book.old.problem turn given usable book.old.book waiting.old.items (Again n) book.new.book waiting.new.items found) }
+        → IsWorked book.old.problem turn given usable IsPassedOver book.old.book waiting.old.items (Again n) book.new.book waiting.new.items found) }
     ensures there { OnOk result (All (HasClause (numbered_clauses book.new.problem book.new.book)) waiting.new.items) }
     ensures few { OnOk result (length book.new.book.derived ≤ length book.old.book.derived + 2) }
     ensures problem { book.new.problem ≡ book.old.problem }

@@ -4,6 +4,7 @@ ghost use Rattle.std.specs.Prelude.{◌≡◌, ◌+◌, ◌*◌, ◌<◌, ◌≤
 ghost use Rattle.sc_term.specs.declared.Numbered.{Numbered as ANumbered};
 ghost use Rattle.sc_core_rules.specs.Book.{numbered_clauses};
 ghost use Rattle.sc_core_rules.specs.Sites.{AreSites};
+ghost use Rattle.sc_core_rules.specs.Turn.{IsPassedOver};
 ghost use Rattle.sc_core_rules.specs.WorkList.{At, Again, Works};
 ghost use Rattle.sc_core_sites.specs.Sites.{site_of};
 ghost use Rattle.sc_core.specs.Finish.{finish_of};
@@ -30,7 +31,7 @@ fn work_waiting(
     requires there { All (HasClause (numbered_clauses book.old.problem book.old.book)) waiting.items }
     requires few { length book.old.problem.inputs + length book.old.book.derived + 2 * left + 2 < 2 ^ 32 }
     ensures works { IfOk result (λ finish. (given : ANumbered) (usable : AList ANumbered)
-        → Works book.old.problem turn given usable left book.old.book (map Again waiting.items) book.new.book (finish_of finish)) }
+        → Works book.old.problem turn given usable IsPassedOver left book.old.book (map Again waiting.items) book.new.book (finish_of finish)) }
     ensures problem { book.new.problem ≡ book.old.problem }
     ensures whole { OnOk result (book.new.whole ≡ true) }
 {
@@ -64,7 +65,7 @@ pub fn work(
     requires listed { Contains book.old.book.usable given.now }
     requires sites { AreSites book.old.problem.flags given.now book.old.book.usable 100001 (map site_of sites.now) }
     requires few { length book.old.problem.inputs + length book.old.book.derived + 200002 < 2 ^ 32 }
-    ensures works { IfOk result (λ finish. Works book.old.problem turn given.now book.old.book.usable 100000 book.old.book (map At (map site_of sites.now)) book.new.book (finish_of finish)) }
+    ensures works { IfOk result (λ finish. Works book.old.problem turn given.now book.old.book.usable IsPassedOver 100000 book.old.book (map At (map site_of sites.now)) book.new.book (finish_of finish)) }
     ensures problem { book.new.problem ≡ book.old.problem }
     ensures whole { OnOk result (book.new.whole ≡ true) }
 {

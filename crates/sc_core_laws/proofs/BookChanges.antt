@@ -10,6 +10,7 @@ use Rattle.sc_core_rules.specs.declared.fate.Processed.{Processed}
 use Rattle.sc_core_rules.specs.declared.row.KeptRow.{KeptRow}
 use Rattle.sc_core_rules.specs.Book.{Book, next_number, numbered_clauses, weight_in, with_derived, with_deleted, leaving_out}
 use Rattle.sc_core_rules.specs.Processing.{with_kept, with_demodulator, Sweeps, Keeps, MeetsFate, Processes}
+use Rattle.sc_core_rules.specs.Sites.{Site}
 use Rattle.sc_core_rules.specs.WorkList.{Item, Finish, Works, done, too_many, nothing, found, goes_on}
 use Rattle.sc_term.proofs.ContainsLaws.{first_or_later}
 use Rattle.sc_core_rules.proofs.FilterLaws.{in_either}
@@ -171,11 +172,11 @@ module _ (problem : Stated) (turn : ℕ) where
 
   -- ---- the work list
 
-  pub works_changes : (given : Numbered) (usable : List Numbered) (n : ℕ) (old new : Book) (items : List Item) (finish : Finish)
-      → Works problem turn given usable n old items new finish → Changes problem turn old new
-  works_changes given usable n old new items finish done = stays old old refl
-  works_changes given usable n old new items finish too_many = stays old old refl
-  works_changes given usable n old new items finish (nothing h w) = works_changes given usable _ old new _ finish w
-  works_changes given usable n old new items finish (found m out gives p e) = processes_changes old m.lines new out p
-  works_changes given usable n old new items finish (goes_on {mid = mid} m out gives p e w) =
-      then old mid new (processes_changes old m.lines mid out p) (works_changes given usable _ mid new _ finish w)
+  pub works_changes : (given : Numbered) (usable : List Numbered) (passed : Site → Type 0) (n : ℕ) (old new : Book) (items : List Item) (finish : Finish)
+      → Works problem turn given usable passed n old items new finish → Changes problem turn old new
+  works_changes given usable passed n old new items finish done = stays old old refl
+  works_changes given usable passed n old new items finish too_many = stays old old refl
+  works_changes given usable passed n old new items finish (nothing h w) = works_changes given usable passed _ old new _ finish w
+  works_changes given usable passed n old new items finish (found m out gives p e) = processes_changes old m.lines new out p
+  works_changes given usable passed n old new items finish (goes_on {mid = mid} m out gives p e w) =
+      then old mid new (processes_changes old m.lines mid out p) (works_changes given usable passed _ mid new _ finish w)

@@ -10,7 +10,6 @@ use Rattle.sc_term.specs.declared.Numbered.{Numbered}
 use Rattle.sc_steps.specs.declared.derivations.derivation.Derived.{Derived}
 use Rattle.sc_input_rules.specs.Problem.{Stated}
 use Rattle.sc_interp.specs.Versions.{ClaimedStructure}
-use Rattle.sc_core_rules.specs.declared.row.Cause.TheVariants as cause
 use Rattle.sc_core_rules.specs.declared.row.GivenRow.{GivenRow}
 use Rattle.sc_core_rules.specs.declared.row.KeptRow.{KeptRow}
 use Rattle.sc_core_rules.specs.Order.{IsLeast}
@@ -19,7 +18,7 @@ use Rattle.sc_core_rules.specs.Book.{Book, live, next_number, leaving_out}
 use Rattle.sc_core_rules.specs.Start.{numbered_from, input_clauses}
 use Rattle.sc_core_rules.specs.Selection.{Seen, IsAny, Selects, ratio}
 use Rattle.sc_core_rules.specs.WorkList.{At}
-use Rattle.sc_core_rules.specs.Turn.{Run, Infer, with_given}
+use Rattle.sc_core_rules.specs.Turn.{Run, Infer, IsPassedOver, with_given}
 use Rattle.sc_term.proofs.ContainsLaws.{first_or_later, at_first}
 use Rattle.sc_core_rules.proofs.FilterLaws.{in_either, in_first, in_second}
 use Rattle.sc_core_rules.proofs.DerivationLaws.{compared}
@@ -113,7 +112,7 @@ module _ (problem : Stated) (old : Run) (seen : Seen) (new : Run) (h : Infer pro
   rows_now = old.given ++ new_row ∷ []
 
   pub infer_changes : Changes problem (length old.given + 1) moved h.book
-  infer_changes = works_changes problem (length old.given + 1) h.given (with_given old.book h.given).usable 100000 moved h.book (map At h.sites) h.finish h.works
+  infer_changes = works_changes problem (length old.given + 1) h.given (with_given old.book h.given).usable IsPassedOver 100000 moved h.book (map At h.sites) h.finish h.works
 
   one_longer : length rows_now ≡ length old.given + 1
   one_longer = length-append old.given (new_row ∷ [])

@@ -9,7 +9,7 @@ use Rattle.sc_input_rules.specs.declared.settings.Home.{Home}
 use Rattle.sc_input_rules.specs.declared.settings.Home.TheVariants.{Usable, Sos, Passive}
 use Rattle.sc_core_rules.specs.declared.row.GivenRow.{GivenRow}
 use Rattle.sc_core_rules.specs.declared.row.KeptRow.{KeptRow}
-use Rattle.sc_core_rules.specs.Book.{Book, live, next_number}
+use Rattle.sc_core_rules.specs.Book.{Book, next_number}
 use Rattle.sc_core_rules.specs.Start.{input_clauses, IsAtHome, OpensBook, Starts}
 use Rattle.sc_core_rules.specs.Selection.{Seen, ratio}
 use Rattle.sc_core_rules.specs.Turn.{Run, Infer}

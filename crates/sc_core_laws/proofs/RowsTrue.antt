@@ -1,29 +1,28 @@
 -- Each given row tells the truth of its clause in the version that it names.
-use Rattle.std.proofs.Common.{◌≡◌, sym, ap, subst, ℕ, zero, suc, ◌+◌, inl, inr, List, [], ◌∷◌, ◌++◌, length, map, slice_get, Option, Some}
+use Rattle.std.proofs.Common.{◌≡◌, sym, subst, ℕ, zero, suc, ◌+◌, inl, inr, List, [], ◌∷◌, ◌++◌, length, map, slice_get, Some}
 use Rattle.std.specs.Prelude.{IsSomeAnd}
-use Rattle.std.specs.List.{Contains, AllZip, AllByRecursion}
-use Rattle.sc_term.specs.declared.Clause.{Clause}
+use Rattle.std.specs.List.{Contains, AllByRecursion}
 use Rattle.sc_term.specs.declared.Numbered.{Numbered}
 use Rattle.sc_term.specs.Numbering.{numbered}
 use Rattle.sc_term.proofs.SubstitutionLaws.{all_join}
 use Rattle.sc_term.proofs.ContainsLaws.{at_first}
 use Rattle.sc_steps.proofs.LineLaws.{in_whole}
 use Rattle.sc_input_rules.specs.Problem.{Stated}
-use Rattle.sc_input_rules.specs.WellFormed.{IsProblem}
 use Rattle.sc_interp.specs.declared.plain.VersionName.{VersionName}
 use Rattle.sc_interp.specs.Versions.{ClaimedStructure}
 use Rattle.sc_core_rules.specs.declared.row.GivenRow.{GivenRow}
 use Rattle.sc_core_rules.specs.Book.{Book, IsSound, IsDerived, numbered_clauses}
-use Rattle.sc_core_rules.specs.Selection.{Seen, IsAt, IsGuide}
+use Rattle.sc_core_rules.specs.Selection.{Seen, IsGuide}
+use Rattle.sc_core_rules.specs.Sites.{Site}
 use Rattle.sc_core_rules.specs.WorkList.{Item, Finish, Works, done, too_many, nothing, found, goes_on}
-use Rattle.sc_core_rules.specs.Turn.{Run, Infer, Turns, with_given}
-use Rattle.sc_core_rules.specs.Run.{IsPrefixOf, GoesOver, started}
+use Rattle.sc_core_rules.specs.Turn.{Run, Infer, Turns, IsPassedOver, with_given}
+use Rattle.sc_core_rules.specs.Run.{GoesOver, started}
 use Rattle.sc_core_rules.proofs.NumberLaws.{numbered-suc}
 use Rattle.sc_core_rules.proofs.FilterLaws.{in_first, in_second}
 use Rattle.sc_core_rules.proofs.CheckLaws.{AllStand}
 use Rattle.sc_core_rules.proofs.SoundLaws.{StandsIn}
 use Rattle.sc_core_rules.proofs.SoundProcessing.{where_either, processes_sound}
-use Rattle.sc_core_rules.proofs.DerivedBook.{GoesOn, all_stand, processes_goes_on}
+use Rattle.sc_core_rules.proofs.DerivedBook.{all_stand, processes_goes_on}
 use Rattle.sc_core_rules.proofs.DerivedRun.{gives_checks, turns_derived, starts_derived}
 use Rattle.sc_core_rules.proofs.TurnLaws.{given_sound, selected_there, turns_sound}
 use Rattle.sc_core_rules.proofs.RunLaws.{starts_sound}
@@ -71,16 +70,16 @@ module _ (problem : Stated) (versions : Seen) where
   rows_stay old new grows [] h = tt
   rows_stay old new grows (row ∷ rows) h = (row_stays old new grows row h.0, rows_stay old new grows rows h.1)
 
-  module _ (turn : ℕ) (given : Numbered) (usable : List Numbered) (there : Contains usable given) where
+  module _ (turn : ℕ) (given : Numbered) (usable : List Numbered) (passed : Site → Type 0) (there : Contains usable given) where
     works_grow : (n : ℕ) (book new : Book) (items : List Item) (f : Finish) → IsSound problem book → IsDerived problem book → AllStand (numbered_clauses problem book) usable
-        → Works problem turn given usable n book items new f → Grows book new
+        → Works problem turn given usable passed n book items new f → Grows book new
     works_grow n book new items f sound derived stand done p h = h
     works_grow n book new items f sound derived stand too_many p h = h
     works_grow n book new items f sound derived stand (nothing k w) p h = works_grow _ book new _ f sound derived stand w p h
     works_grow n book new items f sound derived stand (found {item = item} m o gives k e) p h =
-        (processes_goes_on problem book m.lines turn new o sound derived (gives_checks problem book given usable there stand item m gives) k).grows p h
+        (processes_goes_on problem book m.lines turn new o sound derived (gives_checks problem book given usable passed there stand item m gives) k).grows p h
     works_grow n book new items f sound derived stand (goes_on {mid = mid} {item = item} m o gives k e w) p h =
-        let step = processes_goes_on problem book m.lines turn mid o sound derived (gives_checks problem book given usable there stand item m gives) k in
+        let step = processes_goes_on problem book m.lines turn mid o sound derived (gives_checks problem book given usable passed there stand item m gives) k in
         works_grow _ mid new _ f (processes_sound problem book m.lines turn mid o sound k) step.derived (λ q l. step.grows q (stand q l)) w p (step.grows p h)
 
   -- ---- a turn
@@ -99,7 +98,7 @@ module _ (problem : Stated) (versions : Seen) where
         moved = given_sound problem old.book h.given listed sound
 
         grows : Grows old.book h.book
-        grows = works_grow turn h.given (with_given old.book h.given).usable (in_second h.given old.book.usable (h.given ∷ []) (at_first h.given []))
+        grows = works_grow turn h.given (with_given old.book h.given).usable IsPassedOver (in_second h.given old.book.usable (h.given ∷ []) (at_first h.given []))
             100000 (with_given old.book h.given) h.book _ h.finish moved derived
             (λ p k. all_stand problem (with_given old.book h.given) moved p (in_first p _ old.book.passive (in_first p (with_given old.book h.given).usable (with_given old.book h.given).sos k))) h.works
 

@@ -16,7 +16,7 @@ use Rattle.sc_core_rules.specs.Book.{Book, IsSound, IsDerived, numbered_clauses}
 use Rattle.sc_core_rules.specs.Start.{input_clauses, Starts}
 use Rattle.sc_core_rules.specs.Selection.{Seen}
 use Rattle.sc_core_rules.specs.WorkList.{Item, At, Again, Gives, Finish, Works, done, too_many, nothing, found, goes_on}
-use Rattle.sc_core_rules.specs.Turn.{Run, Infer, Turns, with_given}
+use Rattle.sc_core_rules.specs.Turn.{Run, Infer, Turns, IsPassedOver, with_given}
 use Rattle.sc_core_rules.specs.Run.{GoesOver, started, IsRun}
 use Rattle.sc_term.proofs.ContainsLaws.{first_or_later, at_first}
 use Rattle.sc_core_rules.proofs.FilterLaws.{in_first, in_second}
@@ -68,27 +68,27 @@ module _ (problem : Stated) where
   -- ---- the work list
 
   -- what an item gives follows from the book's clauses
-  pub gives_checks : (book : Book) (given : Numbered) (usable : List Numbered) → Contains usable given → AllStand (numbered_clauses problem book) usable → (item : Item) (made : Derived)
-      → Gives problem book given usable item made → AreSteps (numbered_clauses problem book) made.lines
-  gives_checks book given usable there stand (At site) made h =
+  pub gives_checks : (book : Book) (given : Numbered) (usable : List Numbered) (passed : Site → Type 0) → Contains usable given → AllStand (numbered_clauses problem book) usable → (item : Item) (made : Derived)
+      → Gives problem book given usable passed item made → AreSteps (numbered_clauses problem book) made.lines
+  gives_checks book given usable passed there stand (At site) made (kept, h) =
       (conclusion_checks (numbered_clauses problem book) h.0 made (λ p k. stand p (parents_usable given usable there site h.0 h.1 p k)) h.2).steps
-  gives_checks book given usable there stand (Again n) made h =
+  gives_checks book given usable passed there stand (Again n) made h =
       subst (λ (d : Derived). AreSteps (numbered_clauses problem book) d.lines) (sym h.2)
       (steps_push (numbered_clauses problem book) [] (record { step = Input n; clause = h.0 }) (λ k less. absurd (omega (arith, less))) h.1)
 
-  module _ (turn : ℕ) (given : Numbered) (usable : List Numbered) (there : Contains usable given) where
+  module _ (turn : ℕ) (given : Numbered) (usable : List Numbered) (passed : Site → Type 0) (there : Contains usable given) where
     still_stand : (old new : Book) → GoesOn problem old new → AllStand (numbered_clauses problem old) usable → AllStand (numbered_clauses problem new) usable
     still_stand old new step stand p k = step.grows p (stand p k)
 
     pub works_derived : (n : ℕ) (book new : Book) (items : List Item) (f : Finish) → IsSound problem book → IsDerived problem book → AllStand (numbered_clauses problem book) usable
-        → Works problem turn given usable n book items new f → IsDerived problem new
+        → Works problem turn given usable passed n book items new f → IsDerived problem new
     works_derived n book new items f sound derived stand done = derived
     works_derived n book new items f sound derived stand too_many = derived
     works_derived n book new items f sound derived stand (nothing h w) = works_derived _ book new _ f sound derived stand w
     works_derived n book new items f sound derived stand (found {item = item} m o gives p e) =
-        (processes_goes_on problem book m.lines turn new o sound derived (gives_checks book given usable there stand item m gives) p).derived
+        (processes_goes_on problem book m.lines turn new o sound derived (gives_checks book given usable passed there stand item m gives) p).derived
     works_derived n book new items f sound derived stand (goes_on {mid = mid} {item = item} m o gives p e w) =
-        let step = processes_goes_on problem book m.lines turn mid o sound derived (gives_checks book given usable there stand item m gives) p in
+        let step = processes_goes_on problem book m.lines turn mid o sound derived (gives_checks book given usable passed there stand item m gives) p in
         works_derived _ mid new _ f (processes_sound problem book m.lines turn mid o sound p) step.derived (still_stand book mid step stand) w
 
   -- ---- a turn
@@ -98,7 +98,7 @@ module _ (problem : Stated) where
       let moved = given_sound problem old.book h.given (selected_there problem old.book.sos turn h.name h.guide h.given h.cause h.selects) sound in
       let book = with_given old.book h.given in
       subst (λ (r : Run). IsDerived problem r.book) (sym h.goes_to)
-      (works_derived turn h.given (with_given old.book h.given).usable (in_second h.given old.book.usable (h.given ∷ []) (at_first h.given []))
+      (works_derived turn h.given (with_given old.book h.given).usable IsPassedOver (in_second h.given old.book.usable (h.given ∷ []) (at_first h.given []))
       100000 (with_given old.book h.given) h.book _ h.finish moved derived
       (λ p k. all_stand problem (with_given old.book h.given) moved p (in_first p _ old.book.passive (in_first p (with_given old.book h.given).usable (with_given old.book h.given).sos k))) h.works)
 

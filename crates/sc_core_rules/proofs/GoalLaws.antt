@@ -20,8 +20,9 @@ use Rattle.sc_core_rules.specs.Book.{Book, IsSound, numbered_clauses, next_numbe
 use Rattle.sc_core_rules.specs.Processing.{with_kept, Keeps, MeetsFate, Processes}
 use Rattle.sc_core_rules.specs.Start.{input_clauses, OpensBook, EndsWith, Starts}
 use Rattle.sc_core_rules.specs.Selection.{Seen}
+use Rattle.sc_core_rules.specs.Sites.{Site}
 use Rattle.sc_core_rules.specs.WorkList.{Item, Finish, Done, Found, TooMany, Works, done, too_many, nothing, found, goes_on}
-use Rattle.sc_core_rules.specs.Turn.{Run, Infer, Turns, with_given, goal_of}
+use Rattle.sc_core_rules.specs.Turn.{Run, Infer, Turns, IsPassedOver, with_given, goal_of}
 use Rattle.sc_core_rules.specs.Run.{GoesOver, started, IsRun, RunRefutes}
 use Rattle.sc_core_rules.proofs.ConflictLaws.{conflict_empty}
 use Rattle.sc_core_rules.proofs.SoundLaws.{StandsIn, grown, kept_sound, kept_stands}
@@ -88,13 +89,13 @@ module _ (problem : Stated) where
   FinishIsEmpty book (Found k) = IsEmptyAt problem book k
   FinishIsEmpty book TooMany = Unit {0}
 
-  works_empty : (turn : ℕ) (given : Numbered) (usable : List Numbered) (n : ℕ) (book new : Book) (items : List Item) (f : Finish) → IsSound problem book
-      → Works problem turn given usable n book items new f → FinishIsEmpty new f
-  works_empty turn given usable n book new items f sound done = tt
-  works_empty turn given usable n book new items f sound too_many = tt
-  works_empty turn given usable n book new items f sound (nothing h w) = works_empty turn given usable _ book new _ f sound w
-  works_empty turn given usable n book new items f sound (found {k = k} m o gives p e) = processes_empty book m.lines turn new o k sound p e
-  works_empty turn given usable n book new items f sound (goes_on {mid = mid} m o gives p e w) = works_empty turn given usable _ mid new _ f (processes_sound problem book m.lines turn mid o sound p) w
+  works_empty : (turn : ℕ) (given : Numbered) (usable : List Numbered) (passed : Site → Type 0) (n : ℕ) (book new : Book) (items : List Item) (f : Finish) → IsSound problem book
+      → Works problem turn given usable passed n book items new f → FinishIsEmpty new f
+  works_empty turn given usable passed n book new items f sound done = tt
+  works_empty turn given usable passed n book new items f sound too_many = tt
+  works_empty turn given usable passed n book new items f sound (nothing h w) = works_empty turn given usable passed _ book new _ f sound w
+  works_empty turn given usable passed n book new items f sound (found {k = k} m o gives p e) = processes_empty book m.lines turn new o k sound p e
+  works_empty turn given usable passed n book new items f sound (goes_on {mid = mid} m o gives p e w) = works_empty turn given usable passed _ mid new _ f (processes_sound problem book m.lines turn mid o sound p) w
 
   -- the goal of a run is an empty clause
   abbrev pub GoalIsEmpty : Run → Type 0
@@ -108,7 +109,7 @@ module _ (problem : Stated) where
   infer_goal : (turn : ℕ) (old : Run) (seen : Seen) (new : Run) → IsSound problem old.book → Infer problem turn old seen new → GoalIsEmpty new
   infer_goal turn old seen new sound h =
       let moved = given_sound problem old.book h.given (selected_there problem old.book.sos turn h.name h.guide h.given h.cause h.selects) sound in
-      subst GoalIsEmpty (sym h.goes_to) (finish_goal h.book h.finish (works_empty turn h.given (with_given old.book h.given).usable 100000 (with_given old.book h.given) h.book _ h.finish moved h.works))
+      subst GoalIsEmpty (sym h.goes_to) (finish_goal h.book h.finish (works_empty turn h.given (with_given old.book h.given).usable IsPassedOver 100000 (with_given old.book h.given) h.book _ h.finish moved h.works))
 
   turns_goal : (old : Run) (seen : Seen) (new : Run) → IsSound problem old.book → GoalIsEmpty old → Turns problem old seen new → GoalIsEmpty new
   turns_goal old seen new sound empty =

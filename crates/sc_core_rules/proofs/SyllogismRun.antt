@@ -291,7 +291,7 @@ turn_three = record {
   are_sites = are_sites;
   book = new_book;
   finish = Found 5;
-  works = found (record { clause = conclusion; lines = lines_four }) (only_fate (Empty 5)) (first_inference, moved usable now_usable to_now (site 1 1) first_inference is_first, concludes) processed refl;
+  works = found (record { clause = conclusion; lines = lines_four }) (only_fate (Empty 5)) ((λ passed. passed), (first_inference, moved usable now_usable to_now (site 1 1) first_inference is_first, concludes)) processed refl;
   goes_to = refl;
 }
 

@@ -17,7 +17,7 @@ use Rattle.sc_interp.specs.Marks.{IsMark}
 use Rattle.sc_core_rules.specs.Selection.{Seen, IsAt, IsBetter, IsGuide, IsAny, IsFalse, Selects, by_weight, score}
 use Rattle.sc_core_rules.specs.Sites.{Site, AreSites}
 use Rattle.sc_core_rules.specs.WorkList.{At, Works}
-use Rattle.sc_core_rules.specs.Turn.{Run, Infer, Turns, with_given, outcome_of, goal_of}
+use Rattle.sc_core_rules.specs.Turn.{Run, Infer, Turns, IsPassedOver, with_given, outcome_of, goal_of}
 use Rattle.sc_term.proofs.ContainsLaws.{first_or_later}
 use Rattle.sc_core_rules.proofs.FilterLaws.{in_either, in_first, in_second}
 use Rattle.sc_core_rules.proofs.StepLaws.{some_both, same_some}
@@ -153,10 +153,10 @@ infer_one problem turn old seen new other sound h k =
     let sites : h.sites ≡ k.sites = sites_are_one problem.flags k.given (with_given old.book k.given).usable 100001 h.sites k.sites
     (subst (λ (p : Numbered). AreSites problem.flags p (with_given old.book p).usable 100001 h.sites) chosen.0 h.are_sites) k.are_sites in
     let moved = given_sound problem old.book k.given (selected_there problem old.book.sos turn k.name k.guide k.given k.cause k.selects) sound in
-    let end = works_one problem turn k.given (with_given old.book k.given).usable (usable_tell problem (with_given old.book k.given) moved)
+    let end = works_one problem turn k.given (with_given old.book k.given).usable IsPassedOver (usable_tell problem (with_given old.book k.given) moved)
     100000 (with_given old.book k.given) h.book k.book (map At k.sites) h.finish k.finish moved
-    (subst (λ (ss : List Site). Works problem turn k.given (with_given old.book k.given).usable 100000 (with_given old.book k.given) (map At ss) h.book h.finish) sites
-    (subst (λ (p : Numbered). Works problem turn p (with_given old.book p).usable 100000 (with_given old.book p) (map At h.sites) h.book h.finish) chosen.0 h.works)) k.works in
+    (subst (λ (ss : List Site). Works problem turn k.given (with_given old.book k.given).usable IsPassedOver 100000 (with_given old.book k.given) (map At ss) h.book h.finish) sites
+    (subst (λ (p : Numbered). Works problem turn p (with_given old.book p).usable IsPassedOver 100000 (with_given old.book p) (map At h.sites) h.book h.finish) chosen.0 h.works)) k.works in
     h.goes_to
     ∙ (λ i. record {
       book = end.0 i;
@@ -170,7 +170,7 @@ infer_sound : (problem : Stated) (turn : ℕ) (old : Run) (seen : Seen) (new : R
 infer_sound problem turn old seen new sound h =
     let moved = given_sound problem old.book h.given (selected_there problem old.book.sos turn h.name h.guide h.given h.cause h.selects) sound in
     subst (λ (r : Run). IsSound problem r.book) (sym h.goes_to)
-    (works_sound problem turn h.given (with_given old.book h.given).usable (usable_tell problem (with_given old.book h.given) moved)
+    (works_sound problem turn h.given (with_given old.book h.given).usable IsPassedOver (usable_tell problem (with_given old.book h.given) moved)
     100000 (with_given old.book h.given) h.book (map At h.sites) h.finish moved h.works)
 
 pub turns_one : (problem : Stated) (old : Run) (seen : Seen) (new other : Run) → IsSound problem old.book → Turns problem old seen new → Turns problem old seen other → new ≡ other

@@ -39,6 +39,10 @@ goal_of TooMany = None
 abbrev pub with_given : Book → Numbered → Book
 with_given book p = record book { usable = book.usable ++ p ∷ []; sos = leaving_out (p ∷ []) book.sos }
 
+-- a site that a turn passes over, though it stands in the work list and counts there: there is none
+abbrev pub IsPassedOver : Site → Type 0
+IsPassedOver site = ⊥
+
 -- a clause is selected under the guide, its row is written, it moves to usable, and all its sites are worked
 pub record Infer (problem : Stated) (turn : ℕ) (old : Run) (seen : Seen) (new : Run) : Type 0 where
   pub name : VersionName
@@ -54,7 +58,7 @@ pub record Infer (problem : Stated) (turn : ℕ) (old : Run) (seen : Seen) (new 
   pub are_sites : AreSites problem.flags given (with_given old.book given).usable 100001 sites
   pub book : Book
   pub finish : Finish
-  pub works : Works problem turn given (with_given old.book given).usable 100000 (with_given old.book given) (map At sites) book finish
+  pub works : Works problem turn given (with_given old.book given).usable IsPassedOver 100000 (with_given old.book given) (map At sites) book finish
   pub goes_to : new ≡ record {
     book = book;
     given = old.given ++ record { turn = turn; number = given.number; cause = cause; name = name; truth = truth; lengths = map (λ (vs : List ClaimedStructure). length vs) seen } ∷ [];

@@ -18,10 +18,11 @@ pub data Item : Type 0 where
   At : Site → Item
   Again : ℕ → Item
 
--- the item gives this conclusion: that of its site, or the clause itself by its `input` line
-abbrev pub Gives : Stated → Book → Numbered → List Numbered → Item → Derived → Type 0
-Gives problem book given usable (At site) made = (i : Inference) × Infers given usable site i × Concludes i made
-Gives problem book given usable (Again n) made =
+-- the item gives this conclusion: that of its site, where the site isn't passed over, or the clause itself by its `input`
+-- line
+abbrev pub Gives : Stated → Book → Numbered → List Numbered → (Site → Type 0) → Item → Derived → Type 0
+Gives problem book given usable passed (At site) made = (¬ passed site) × ((i : Inference) × Infers given usable site i × Concludes i made)
+Gives problem book given usable passed (Again n) made =
     (c : Clause) × (numbered (numbered_clauses problem book) n ≡ Some c)
     × (made ≡ record { clause = c; lines = record { step = Input n; clause = c } ∷ [] })
 
@@ -32,19 +33,19 @@ pub data Finish : Type 0 where
   TooMany : Finish
 
 -- the items are processed in order, at most so many; those that go back to the list join its end; an empty clause ends it
-pub data Works (problem : Stated) (turn : ℕ) (given : Numbered) (usable : List Numbered) : ℕ → Book → List Item → Book → Finish → Type 0 where
-  done : {n : ℕ} {book : Book} → Works problem turn given usable n book [] book Done
-  too_many : {book : Book} {item : Item} {items : List Item} → Works problem turn given usable zero book (item ∷ items) book TooMany
+pub data Works (problem : Stated) (turn : ℕ) (given : Numbered) (usable : List Numbered) (passed : Site → Type 0) : ℕ → Book → List Item → Book → Finish → Type 0 where
+  done : {n : ℕ} {book : Book} → Works problem turn given usable passed n book [] book Done
+  too_many : {book : Book} {item : Item} {items : List Item} → Works problem turn given usable passed zero book (item ∷ items) book TooMany
   nothing : {n : ℕ} {book new : Book} {item : Item} {items : List Item} {finish : Finish}
-      → ((made : Derived) → ¬ Gives problem book given usable item made)
-      → Works problem turn given usable n book items new finish
-      → Works problem turn given usable (suc n) book (item ∷ items) new finish
+      → ((made : Derived) → ¬ Gives problem book given usable passed item made)
+      → Works problem turn given usable passed n book items new finish
+      → Works problem turn given usable passed (suc n) book (item ∷ items) new finish
   found : {n k : ℕ} {book new : Book} {item : Item} {items : List Item} (made : Derived) (out : Processed)
-      → Gives problem book given usable item made
+      → Gives problem book given usable passed item made
       → Processes problem book made.lines turn new out → out.fate ≡ Empty k
-      → Works problem turn given usable (suc n) book (item ∷ items) new (Found k)
+      → Works problem turn given usable passed (suc n) book (item ∷ items) new (Found k)
   goes_on : {n : ℕ} {book mid new : Book} {item : Item} {items : List Item} {finish : Finish} (made : Derived) (out : Processed)
-      → Gives problem book given usable item made
+      → Gives problem book given usable passed item made
       → Processes problem book made.lines turn mid out → ((k : ℕ) → out.fate ≢ Empty k)
-      → Works problem turn given usable n mid (items ++ map Again out.again) new finish
-      → Works problem turn given usable (suc n) book (item ∷ items) new finish
+      → Works problem turn given usable passed n mid (items ++ map Again out.again) new finish
+      → Works problem turn given usable passed (suc n) book (item ∷ items) new finish

@@ -2,6 +2,7 @@ use Rattle.std.proofs.Common.{◌≡◌, ◌∙◌, ap, sym, subst, ◌++◌, �
 use Rattle.sc_term.specs.Numbering.{numbered}
 use Rattle.sc_input_rules.specs.Problem.{Stated}
 use Rattle.sc_core_rules.specs.Book.{numbered_clauses}
+use Rattle.sc_core_rules.specs.Turn.{IsPassedOver}
 use Rattle.sc_core_rules.proofs.DerivedBook.{processes_goes_on}
 use Rattle.sc_core.proofs.ItemLaws.{made_processed, all_have}
 use Rattle.sc_core.proofs.ProcessedLaws.{processes_few}
@@ -9,7 +10,7 @@ use Rattle.sc_core.proofs.item.process_made.Goals as goal
 
 pub returns-clause-worked : goal.returns-clause-worked
 returns-clause-worked c given usable item gives =
-    made_processed c.args.book.now.problem c.args.turn given usable c.args.book.now.book c.args.waiting.now.items item c.args.made c.process.new.self.book c.in_ok-out.out c.join.new.waiting.items
+    made_processed c.args.book.now.problem c.args.turn given usable IsPassedOver c.args.book.now.book c.args.waiting.now.items item c.args.made c.process.new.self.book c.in_ok-out.out c.join.new.waiting.items
     gives c.in_ok-out.ensures.processes
     (c.in_ok-join.ensures ∙ ap (λ (ns : List ℕ). c.args.waiting.now.items ++ ns) c.as_slice.ensures) c.found_by.result c.found_by.ensures
 

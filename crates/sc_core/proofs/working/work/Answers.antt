@@ -1,6 +1,7 @@
 use Rattle.std.proofs.Common.{◌∙◌, sym, subst, refl, ◌+◌, ◌≤◌, List, All, map, drop, length, arith}
 use Rattle.std.proofs.lemmas.List.{length-map}
 use Rattle.sc_core_rules.specs.Book.{numbered_clauses}
+use Rattle.sc_core_rules.specs.Turn.{IsPassedOver}
 use Rattle.sc_core_rules.specs.WorkList.{At, Again}
 use Rattle.sc_core_sites.specs.Sites.{site_of}
 use Rattle.sc_core_sites.specs.declared.site.Site.{Site as Told}
@@ -22,9 +23,9 @@ loop-site-init c =
       few = omega (arith, few);
       usable = first_usable problem book c.args.given.now (kept.sound whole) c.requires.listed (kept.usable_canonical whole) (kept.usable_within whole);
       there = subst (All (HasClause (numbered_clauses problem book))) (sym c.new-waiting.ensures.items) (λ k d less. absurd (omega (arith, less)));
-      reaches = subst (Reaches problem c.args.turn c.args.given.now book.usable 100000 book (map At (map site_of c.args.sites.now)) 100000 book)
+      reaches = subst (Reaches problem c.args.turn c.args.given.now book.usable IsPassedOver 100000 book (map At (map site_of c.args.sites.now)) 100000 book)
           (none_waits (map site_of c.args.sites.now) c.new-waiting.result.items c.new-waiting.ensures.items)
-          (starts problem c.args.turn c.args.given.now book.usable 100000 book (map At (map site_of c.args.sites.now)));
+          (starts problem c.args.turn c.args.given.now book.usable IsPassedOver 100000 book (map At (map site_of c.args.sites.now)));
     }
 
 pub returns-then-left-eq0-clause-works : goal.returns-then-left-eq0-clause-works

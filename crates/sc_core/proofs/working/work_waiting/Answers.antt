@@ -1,5 +1,6 @@
 use Rattle.std.proofs.Common.{◌∙◌, ap, refl, [], map}
 use Rattle.sc_core_rules.specs.Book.{numbered_clauses}
+use Rattle.sc_core_rules.specs.Turn.{IsPassedOver}
 use Rattle.sc_core_rules.specs.WorkList.{Again}
 use Rattle.sc_core.specs.Items.{HasClause}
 use Rattle.sc_core.proofs.WorkingLaws.{starts, number_opened, first_has, others_have, one_too_many, one_found, one_worked, still_few, none_taken, all_done}
@@ -11,7 +12,7 @@ loop-n-init c = record {
   whole = c.requires.whole;
   few = c.requires.few;
   there = c.requires.there;
-  reaches = λ given usable. starts c.args.book.now.problem c.args.turn given usable c.args.left c.args.book.now.book (map Again c.args.waiting.items);
+  reaches = λ given usable. starts c.args.book.now.problem c.args.turn given usable IsPassedOver c.args.left c.args.book.now.book (map Again c.args.waiting.items);
 }
 
 pub returns-then-left-eq0-clause-works : goal.returns-then-left-eq0-clause-works

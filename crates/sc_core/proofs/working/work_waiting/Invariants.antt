@@ -1,6 +1,7 @@
 use Rattle.std.proofs.Common.{◌≡◌, ◌+◌, ◌*◌, ◌<◌, ◌^◌, List, true, All, length, map}
 use Rattle.sc_term.specs.declared.Numbered.{Numbered}
 use Rattle.sc_core_rules.specs.Book.{numbered_clauses}
+use Rattle.sc_core_rules.specs.Turn.{IsPassedOver}
 use Rattle.sc_core_rules.specs.WorkList.{Again}
 use Rattle.sc_core.specs.Items.{HasClause}
 use Rattle.sc_core.proofs.WorkingLaws.{Reaches}
@@ -13,7 +14,7 @@ invariant-loop-n l = record {
   few : length l.book.problem.inputs + length l.book.book.derived + 2 * l.left + 2 < 2 ^ 32;
   there : All (HasClause (numbered_clauses l.book.problem l.book.book)) l.waiting.items;
   reaches : (given : Numbered) (usable : List Numbered)
-      → Reaches l.initial.book.problem l.turn given usable l.fn.left l.initial.book.book (map Again l.fn.waiting.items) l.left l.book.book (map Again l.waiting.items);
+      → Reaches l.initial.book.problem l.turn given usable IsPassedOver l.fn.left l.initial.book.book (map Again l.fn.waiting.items) l.left l.book.book (map Again l.waiting.items);
 }
 
 -- each number that is worked counts
