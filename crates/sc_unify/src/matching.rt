@@ -47,11 +47,7 @@ pub fn match_term<'a>(pattern: &Term, target: &'a Term, bound: &mut Vec<Bound<'a
 }
 
 #[cycle(matching)]
-fn match_terms<'a>(
-    patterns: &[Term],
-    targets: &'a [Term],
-    bound: &mut Vec<Bound<'a>>,
-) -> Mem<bool>
+fn match_terms<'a>(patterns: &[Term], targets: &'a [Term], bound: &mut Vec<Bound<'a>>) -> Mem<bool>
     ensures { IfOk result (λ can. Matches can (bindings bound.old.items) (bindings bound.new.items)
         (λ s. map (term_under s) patterns.now ≡ targets.now) (joined (map term_variables patterns.now))) }
 {
