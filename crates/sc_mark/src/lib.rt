@@ -14,7 +14,12 @@
 //! marked, and `carry` finds the truth of each clause anew.
 #![tactic(auto)]
 
+mod carrying;
+mod changes;
+mod evaluate;
+mod known;
 mod marks;
 mod truths;
+mod trying;
 
 pub use marks::{Mark, Marks};
