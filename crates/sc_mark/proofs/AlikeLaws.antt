@@ -1,5 +1,5 @@
 -- A clause whose symbols have the same entries in two structures of a size has the same truth in both.
-use Rattle.std.proofs.Common.{◌≡◌, ◌∙◌, sym, ap, subst, refl, ℕ, ◌<◌, ◌≤◌, Bool, true, false, true≢false, not, ◌||◌, if◌then◌else◌, List, [], ◌∷◌, map, slice_index, nat_eq}
+use Rattle.std.proofs.Common.{◌≡◌, ◌∙◌, sym, ap, subst, refl, ℕ, ◌<◌, Bool, true, false, true≢false, not, ◌||◌, if◌then◌else◌, List, [], ◌∷◌, map, slice_index, nat_eq}
 use Rattle.std.specs.List.{AllByRecursion, list_any}
 use Rattle.sc_term.specs.declared.SymId.{SymId}
 use Rattle.sc_term.specs.declared.Term.{Term, Var}
@@ -9,12 +9,12 @@ use Rattle.sc_term.specs.declared.Clause.{Clause}
 use Rattle.sc_term.specs.Interpretation.{Meaning, Assignment, value_step, value, are_equal, atom_holds, literal_holds}
 use Rattle.sc_term.proofs.TermLaws.{term_ind, fold-Var, fold-App}
 use Rattle.sc_interp.specs.declared.table.Table.{Table}
-use Rattle.sc_interp.specs.Structure.{Structure, Satisfies, place_of, tables_of_size}
-use Rattle.sc_interp.specs.Marks.{assignments, IsMark}
+use Rattle.sc_interp.specs.Structure.{Structure, place_of, tables_of_size}
+use Rattle.sc_interp.specs.Marks.{assignments}
 use Rattle.sc_mark.specs.declared.known.Known.{Known}
 use Rattle.sc_mark.specs.declared.known.Known.TheVariants.{True, False, Wide}
-use Rattle.sc_mark.specs.Known.{IsFalsifiedBy, IsKnown}
-use Rattle.sc_mark.specs.Changes.{is_changed, IsAlike, AreChanges, changed_step, term_changed, literal_changed, clause_changed}
+use Rattle.sc_mark.specs.Known.{IsKnown}
+use Rattle.sc_mark.specs.Changes.{is_changed, AreChanges, changed_step, term_changed, literal_changed, clause_changed}
 
 neither : (b c : Bool) → b || c ≡ false → (b ≡ false) × (c ≡ false)
 neither true c e = absurd (true≢false e)

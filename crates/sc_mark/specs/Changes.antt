@@ -1,5 +1,5 @@
 -- Which symbols have other entries in one structure than in another, and which clauses read one of them.
-use Rattle.std.specs.Prelude.{◌≡◌, ◌<◌, ℕ, List, Bool, true, false, ◌||◌, map, slice_index_or}
+use Rattle.std.specs.Prelude.{◌≡◌, ℕ, List, Bool, true, false, ◌||◌, map, slice_index_or}
 use Rattle.std.specs.List.{list_any}
 use Rattle.sc_term.specs.declared.Term.{Term, fold-Term}
 use Rattle.sc_term.specs.declared.Term.TheOpen.{Term-F}
@@ -8,7 +8,7 @@ use Rattle.sc_term.specs.declared.Literal.{Literal}
 use Rattle.sc_term.specs.declared.Clause.{Clause}
 use Rattle.sc_term.specs.Numbering.{numbered}
 use Rattle.sc_interp.specs.declared.table.Table.{Table}
-use Rattle.sc_interp.specs.Structure.{Structure, entry_in}
+use Rattle.sc_interp.specs.Structure.{entry_in}
 
 -- whether an entry of symbol n may differ, by a list with a place for each symbol: where it has none, it may
 abbrev pub is_changed : List Bool → ℕ → Bool

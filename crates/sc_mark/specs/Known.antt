@@ -1,5 +1,5 @@
 -- What is known of a clause that is marked: its truth, and where it is false an assignment that shows it.
-use Rattle.std.specs.Prelude.{◌≡◌, ◌≤◌, ◌<◌, ℕ, List, false, length}
+use Rattle.std.specs.Prelude.{◌≡◌, ℕ, List, false, length}
 use Rattle.sc_term.specs.declared.Clause.{Clause}
 use Rattle.sc_term.specs.Clause.{width}
 use Rattle.sc_interp.specs.declared.plain.Truth.{Truth}

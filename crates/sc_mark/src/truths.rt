@@ -123,7 +123,14 @@ fn carried_one(
     ensures register { length register.new.items ≡ length register.old.items }
 {
     match known_of(stored, p.number) {
-        Some(before) => known_after(old, new, changes, &p.clause, before, register.as_mut_slice()),
+        Some(before) => known_after(
+            old,
+            new,
+            changes,
+            &p.clause,
+            before,
+            register.as_mut_slice(),
+        ),
         None => known_in(new, &p.clause, register),
     }
 }

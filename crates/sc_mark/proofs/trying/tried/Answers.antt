@@ -1,4 +1,4 @@
-use Rattle.std.proofs.Common.{◌≡◌, ◌∙◌, sym, subst, ◌^◌, ◌<◌, ◌≤◌, arith}
+use Rattle.std.proofs.Common.{◌≡◌, ◌∙◌, sym, subst, ◌^◌, ◌≤◌, arith}
 use Rattle.sc_interp.specs.Structure.{Structure, Satisfies}
 use Rattle.sc_interp.specs.Marks.{assignments}
 use Rattle.sc_interp.proofs.Width.{canonical_width}
