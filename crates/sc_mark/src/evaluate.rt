@@ -1,4 +1,4 @@
-//! The value of a term and the truth of a clause under one assignment, as sc_interp finds them for itself.
+//! The value of a term and the truth of a clause under one assignment, as sc_interp finds them for its own use.
 
 ghost use Rattle.std.specs.Prelude.{◌≡◌, ℕ, ◌≤◌, ◌-◌, ◌+◌, ◌^◌, map, min, slice_index};
 ghost use Rattle.std.specs.List.{list_any};
