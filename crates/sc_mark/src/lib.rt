@@ -27,3 +27,6 @@ mod truths;
 mod trying;
 
 pub use marks::{Mark, Marks};
+
+#[cfg(test)]
+mod tests;
