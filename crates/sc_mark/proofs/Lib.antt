@@ -1,3 +1,7 @@
 pub mod NarrowLaws
+pub mod KnownLaws
+pub mod AlikeLaws
+pub mod AssigningLaws
+pub mod ChangeLaws
 pub mod TruthLaws
 pub mod MarkingLaws

@@ -1,4 +1,4 @@
--- Truths at the numbers of clauses, where one is put or taken away.
+-- What is known at the numbers of clauses, where one entry is put or taken away.
 use Rattle.std.proofs.Common.{◌≡◌, ◌≢◌, ◌∙◌, sym, ap, subst, refl, ℕ, zero, suc, ◌<◌, ◌≤◌, ◌⊎◌, inl, inr, Bool, true, false, true≢false, not, cond, Option, None, Some, MatchOption, List, [], ◌∷◌, ◌++◌, length, get_or, set, arith, nat_eq}
 use Rattle.std.specs.List.{All, Contains, filter}
 use Rattle.std.specs.Option.{IsSomeAnd}
@@ -9,11 +9,11 @@ use Rattle.std.proofs.lemmas.Bool.Decides.{eqb_tells}
 use Rattle.std.proofs.lemmas.List.Elements.{All-contains, All-push, All-filter, All-head, All-tail, filter_passes, Contains-get_or, Contains-push, Contains-append_left}
 use Rattle.sc_term.specs.declared.Clause.{Clause}
 use Rattle.sc_term.specs.declared.Numbered.{Numbered}
-use Rattle.sc_interp.specs.declared.plain.Truth.{Truth}
 use Rattle.sc_interp.specs.Structure.{Structure}
-use Rattle.sc_interp.specs.Marks.{IsMark}
+use Rattle.sc_mark.specs.declared.known.Known.{Known}
+use Rattle.sc_mark.specs.Known.{IsKnown}
 use Rattle.sc_mark.specs.Marked.{HasNumber, without_number}
-use Rattle.sc_mark.specs.Marking.{truth_at, AreSame, IsPut, HasItsTruth, AreTruths}
+use Rattle.sc_mark.specs.Marking.{known_at, AreSame, IsPut, IsKnownAt, AreKnown}
 
 -- ---- lists
 
@@ -60,76 +60,76 @@ passes m n h = ap not (ne_eqb m n h)
 -- ---- places
 
 -- a place more, at which nothing stands
-pub grown : (ts : List (Option Truth)) (n : ℕ) → truth_at (ts ++ None ∷ []) n ≡ truth_at ts n
+pub grown : (ts : List (Option Known)) (n : ℕ) → known_at (ts ++ None ∷ []) n ≡ known_at ts n
 grown [] zero = refl
 grown [] (suc n) = refl
 grown (t ∷ ts) zero = refl
 grown (t ∷ ts) (suc n) = grown ts n
 
-pub one_put : (ts : List (Option Truth)) (n : ℕ) (entry : Option Truth) → n < length ts → IsPut n entry ts (set ts n entry)
+pub one_put : (ts : List (Option Known)) (n : ℕ) (entry : Option Known) → n < length ts → IsPut n entry ts (set ts n entry)
 one_put ts n entry less = record {
   here = get_or-set_same ts n entry None less;
   elsewhere = λ m other. get_or-set_other ts n m entry None other;
 }
 
 -- past the end nothing stands already
-pub none_past : (ts : List (Option Truth)) (n : ℕ) → length ts ≤ n → IsPut n None ts ts
+pub none_past : (ts : List (Option Known)) (n : ℕ) → length ts ≤ n → IsPut n None ts ts
 none_past ts n long = record { here = get_or-eq_default ts None long; elsewhere = λ m other. refl }
 
-pub put_after : (n : ℕ) (entry : Option Truth) (old room new : List (Option Truth)) → AreSame old room → IsPut n entry room new → IsPut n entry old new
+pub put_after : (n : ℕ) (entry : Option Known) (old room new : List (Option Known)) → AreSame old room → IsPut n entry room new → IsPut n entry old new
 put_after n entry old room new same put = record { here = put.here; elsewhere = λ m other. put.elsewhere m other ∙ same m }
 
 -- ---- what is read
 
-pub one_told : (t : Structure) (cs : List Numbered) (ts : List (Option Truth)) → AreTruths t cs ts → (n : ℕ) (truth : Truth) → truth_at ts n ≡ Some truth
-    → (p : Numbered) → Contains cs p → p.number ≡ n → IsMark t p.clause truth
-one_told t cs ts h n truth e p at is =
-    subst (λ (o : Option Truth). IsSomeAnd o (IsMark t p.clause)) (ap (truth_at ts) is ∙ e) (All-contains (HasItsTruth t ts) cs p h.each at)
+pub one_told : (t : Structure) (cs : List Numbered) (ts : List (Option Known)) → AreKnown t cs ts → (n : ℕ) (known : Known) → known_at ts n ≡ Some known
+    → (p : Numbered) → Contains cs p → p.number ≡ n → IsKnown t p.clause known
+one_told t cs ts h n known e p at is =
+    subst (λ (o : Option Known). IsSomeAnd o (IsKnown t p.clause)) (ap (known_at ts) is ∙ e) (All-contains (IsKnownAt t ts) cs p h.each at)
 
-pub none_told : (t : Structure) (cs : List Numbered) (ts : List (Option Truth)) → AreTruths t cs ts → (n : ℕ) → truth_at ts n ≡ None → ¬ HasNumber cs n
+pub none_told : (t : Structure) (cs : List Numbered) (ts : List (Option Known)) → AreKnown t cs ts → (n : ℕ) → known_at ts n ≡ None → ¬ HasNumber cs n
 none_told t cs ts h n e found =
-    subst (λ (o : Option Truth). IsSomeAnd o (IsMark t found.0.clause)) (ap (truth_at ts) found.2 ∙ e) (All-contains (HasItsTruth t ts) cs found.0 h.each found.1)
+    subst (λ (o : Option Known). IsSomeAnd o (IsKnown t found.0.clause)) (ap (known_at ts) found.2 ∙ e) (All-contains (IsKnownAt t ts) cs found.0 h.each found.1)
 
-not_some : (truth : Truth) → None ≡ Some truth → ⊥
-not_some truth e = subst (λ (o : Option Truth). MatchOption o (Unit {0}) (λ _. ⊥)) e tt
+not_some : (known : Known) → None ≡ Some known → ⊥
+not_some known e = subst (λ (o : Option Known). MatchOption o (Unit {0}) (λ _. ⊥)) e tt
 
 -- ---- what stays
 
-pub none_yet : (t : Structure) → AreTruths t [] []
+pub none_yet : (t : Structure) → AreKnown t [] []
 none_yet t = record {
   each = λ k d less. absurd (omega (arith, less));
-  only = λ n truth e. absurd (not_some truth e);
+  only = λ n known e. absurd (not_some known e);
 }
 
-module _ (t : Structure) (cs : List Numbered) (old new : List (Option Truth)) (h : AreTruths t cs old) where
-  pub same_truths : AreSame old new → AreTruths t cs new
-  same_truths same = record {
-    each = λ k d less. subst (λ (o : Option Truth). IsSomeAnd o (IsMark t (get_or cs k d).clause)) (sym (same (get_or cs k d).number)) (h.each k d less);
-    only = λ n truth e. h.only n truth (sym (same n) ∙ e);
+module _ (t : Structure) (cs : List Numbered) (old new : List (Option Known)) (h : AreKnown t cs old) where
+  pub same_known : AreSame old new → AreKnown t cs new
+  same_known same = record {
+    each = λ k d less. subst (λ (o : Option Known). IsSomeAnd o (IsKnown t (get_or cs k d).clause)) (sym (same (get_or cs k d).number)) (h.each k d less);
+    only = λ n known e. h.only n known (sym (same n) ∙ e);
   }
 
-  module _ (n : ℕ) (c : Clause) (truth : Truth) (fresh : ¬ HasNumber cs n) (mark : IsMark t c truth) (put : IsPut n (Some truth) old new) where
+  module _ (n : ℕ) (c : Clause) (known : Known) (fresh : ¬ HasNumber cs n) (is_known : IsKnown t c known) (put : IsPut n (Some known) old new) where
     abbrev added : Numbered
     added = record { number = n; clause = c }
 
-    others : All (HasItsTruth t new) cs
+    others : All (IsKnownAt t new) cs
     others = λ k d less.
         let p = get_or cs k d in
         let other : p.number ≢ n = λ e. fresh (p, Contains-get_or cs k d less, e) in
-        subst (λ (o : Option Truth). IsSomeAnd o (IsMark t p.clause)) (sym (put.elsewhere p.number other)) (h.each k d less)
+        subst (λ (o : Option Known). IsSomeAnd o (IsKnown t p.clause)) (sym (put.elsewhere p.number other)) (h.each k d less)
 
-    itself : HasItsTruth t new added
-    itself = subst (λ (o : Option Truth). IsSomeAnd o (IsMark t c)) (sym put.here) mark
+    itself : IsKnownAt t new added
+    itself = subst (λ (o : Option Known). IsSomeAnd o (IsKnown t c)) (sym put.here) is_known
 
-    found_more : (m : ℕ) (told : Truth) → truth_at new m ≡ Some told → Tells m n → HasNumber (cs ++ added ∷ []) m
+    found_more : (m : ℕ) (told : Known) → known_at new m ≡ Some told → Tells m n → HasNumber (cs ++ added ∷ []) m
     found_more m told e (inl is) = (added, Contains-push cs added, sym is.1)
     found_more m told e (inr other) =
         let found = h.only m told (sym (put.elsewhere m other.1) ∙ e) in
         (found.0, Contains-append_left cs (added ∷ []) found.0 found.1, found.2)
 
-    pub one_more : AreTruths t (cs ++ added ∷ []) new
+    pub one_more : AreKnown t (cs ++ added ∷ []) new
     one_more = record {
-      each = All-push (HasItsTruth t new) cs added others itself;
+      each = All-push (IsKnownAt t new) cs added others itself;
       only = λ m told e. found_more m told e (eqb_tells m n);
     }
 
@@ -137,19 +137,19 @@ module _ (t : Structure) (cs : List Numbered) (old new : List (Option Truth)) (h
     abbrev stays : Numbered → Bool
     stays p = not (nat_eq p.number n)
 
-    left : All (HasItsTruth t new) (without_number cs n)
+    left : All (IsKnownAt t new) (without_number cs n)
     left = λ k d less.
         let p = get_or (without_number cs n) k d in
-        subst (λ (o : Option Truth). IsSomeAnd o (IsMark t p.clause)) (sym (put.elsewhere p.number (differs p.number n (filter_passes stays cs k d less))))
-        (All-filter stays (HasItsTruth t old) cs h.each k d less)
+        subst (λ (o : Option Known). IsSomeAnd o (IsKnown t p.clause)) (sym (put.elsewhere p.number (differs p.number n (filter_passes stays cs k d less))))
+        (All-filter stays (IsKnownAt t old) cs h.each k d less)
 
-    found_less : (m : ℕ) (told : Truth) → truth_at new m ≡ Some told → Tells m n → HasNumber (without_number cs n) m
-    found_less m told e (inl is) = absurd (not_some told (sym put.here ∙ sym (ap (truth_at new) is.1) ∙ e))
+    found_less : (m : ℕ) (told : Known) → known_at new m ≡ Some told → Tells m n → HasNumber (without_number cs n) m
+    found_less m told e (inl is) = absurd (not_some told (sym put.here ∙ sym (ap (known_at new) is.1) ∙ e))
     found_less m told e (inr other) =
         let found = h.only m told (sym (put.elsewhere m other.1) ∙ e) in
         (found.0, contains_kept stays cs found.0 found.1 (passes found.0.number n (λ is. other.1 (sym found.2 ∙ is))), found.2)
 
-    pub one_less : AreTruths t (without_number cs n) new
+    pub one_less : AreKnown t (without_number cs n) new
     one_less = record {
       each = left;
       only = λ m told e. found_less m told e (eqb_tells m n);

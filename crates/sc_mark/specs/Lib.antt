@@ -1,2 +1,4 @@
 pub mod Marked
+pub mod Known
+pub mod Changes
 pub mod Marking

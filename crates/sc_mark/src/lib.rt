@@ -9,12 +9,24 @@
 //! name; a number isn't marked exactly where `of` tells nothing. What takes memory says so by its type, and where memory
 //! is wanting the marks stay as they were.
 //!
-//! The truth of clause n stands at place n of a list (`specs/Marking`): `of` is one look, however many clauses are marked.
-//! That takes a byte or two for each number up to the greatest. `forget` takes one pass over the clauses where the clause is
-//! marked, and `carry` finds the truth of each clause anew.
+//! The truth of clause n stands at place n of a list (`specs/Marking`): `of` is one look, however many clauses are
+//! marked. That takes eight to twelve bytes for each number up to the greatest. `forget` takes one pass over the
+//! clauses where the clause is marked. Where a clause is false, the number of an assignment that makes it so stands
+//! with it (`specs/Known`). `carry` compares the tables of the two versions, and finds a truth anew only where a
+//! symbol of the clause has another entry (`specs/Changes`) and that assignment doesn't make the clause false any
+//! more, or the clause was true; in a version of another size always. A clause that is kept costs one walk over its
+//! symbols, and one assignment where they changed.
 #![tactic(auto)]
 
+mod carrying;
+mod changes;
+mod evaluate;
+mod known;
 mod marks;
 mod truths;
+mod trying;
 
 pub use marks::{Mark, Marks};
+
+#[cfg(test)]
+mod tests;

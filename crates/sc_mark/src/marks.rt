@@ -6,8 +6,10 @@ ghost use Rattle.sc_term.specs.declared.Numbered.{Numbered as ANumbered};
 ghost use Rattle.sc_interp.specs.Marks.{IsMark};
 ghost use Rattle.sc_mark.specs.Marked.{unmarked, HasMark, HasTruth, with_mark, without_mark};
 
-use crate::truths::{add, clear, leave_out, truth_in, truth_of, truths_in};
-use sc_interp::{Assign, Truth, Version, VersionName};
+use crate::changes::changes;
+use crate::known::{Known, truth_of};
+use crate::truths::{add, carried, clear, known_in, known_of, leave_out};
+use sc_interp::{Truth, Version, VersionName};
 use sc_term::{Clause, List, MAX_WEIGHT, Mem, Numbered, Signature};
 use std::alloc::Global;
 use std::marker::Model;
@@ -27,11 +29,12 @@ pub struct Marks {
     name: VersionName,
     version: Version,
     clauses: Vec<Numbered>,
-    truths: List<Option<Truth>>,
-    register: Assign,
+    stored: List<Option<Known>>,
+    register: Vec<u8>,
 }
 
 impl Model for Marks {
+    ghost use Rattle.std.specs.Prelude.{length};
     ghost use Rattle.std.specs.Coded.{codes};
     ghost use Rattle.sc_term.specs.contracts.Term as term;
     ghost use Rattle.sc_mark.specs.Marked.{Marked};
@@ -43,7 +46,7 @@ impl Model for Marks {
 
     ghost view = { λ m. record { name = m.name; version = m.version; clauses = m.clauses.items } };
 
-    ghost invariant = { λ m. IsMarking (record { name = m.name; version = m.version; clauses = m.clauses.items }) m.truths m.register };
+    ghost invariant = { λ m. IsMarking (record { name = m.name; version = m.version; clauses = m.clauses.items }) m.stored (length m.register.items) };
 }
 
 impl Marks {
@@ -52,7 +55,7 @@ impl Marks {
         ensures { IfOk result (λ marks. marks ≡ unmarked sig.now) }
     {
         let version = Version::opening(alloc, sig)?;
-        let register = Assign::new(alloc, MAX_WEIGHT)?;
+        let register = vec![in alloc; 0u8; MAX_WEIGHT as usize]?;
         Ok(Marks {
             name: VersionName {
                 finder: 0,
@@ -60,7 +63,7 @@ impl Marks {
             },
             version,
             clauses: Vec::new(alloc),
-            truths: List::new(alloc),
+            stored: List::new(alloc),
             register,
         })
     }
@@ -75,9 +78,9 @@ impl Marks {
         ensures marked { OnOk result (self.new ≡ with_mark self.old n c.now) }
         ensures refused { OnErr result (self.new ≡ self.old) }
     {
-        let truth = truth_in(self.version.tables(), c, &mut self.register);
-        add(alloc, &mut self.clauses, &mut self.truths, n, c, truth)?;
-        Ok(truth)
+        let known = known_in(self.version.tables(), c, &mut self.register);
+        add(alloc, &mut self.clauses, &mut self.stored, n, c, known)?;
+        Ok(truth_of(known))
     }
 
     /// The mark of clause n, None exactly where it isn't marked.
@@ -87,10 +90,10 @@ impl Marks {
         ensures name { IfSome result (λ mark. mark.name ≡ self.now.name) }
         ensures none { IfNone result (¬ HasMark self.now n) }
     {
-        match truth_of(self.truths.as_slice(), n) {
-            Some(truth) => Some(Mark {
+        match known_of(self.stored.as_slice(), n) {
+            Some(known) => Some(Mark {
                 name: self.name,
-                truth,
+                truth: truth_of(known),
             }),
             None => None,
         }
@@ -100,10 +103,10 @@ impl Marks {
     pub fn forget(&mut self, n: u32)
         ensures { self.new ≡ without_mark self.old n }
     {
-        match truth_of(self.truths.as_slice(), n) {
+        match known_of(self.stored.as_slice(), n) {
             Some(_) => {
                 leave_out(&mut self.clauses, n);
-                clear(&mut self.truths, n);
+                clear(&mut self.stored, n);
             }
             None => {}
         }
@@ -114,16 +117,21 @@ impl Marks {
         ensures carried { OnOk result (self.new ≡ record self.old { name = name; version = to.now }) }
         ensures refused { OnErr result (self.new ≡ self.old) }
     {
-        let truths = truths_in(
+        let (old, new) = (self.version.tables(), to.tables());
+        let changes = changes(alloc, old.tables(), new.tables())?;
+        let stored = carried(
             alloc,
-            to.tables(),
+            old,
+            new,
+            changes.as_slice(),
             self.clauses.as_slice(),
+            self.stored.as_slice(),
             &mut self.register,
         )?;
         let version = to.copy(alloc)?;
         self.name = name;
         self.version = version;
-        self.truths = truths;
+        self.stored = stored;
         Ok(())
     }
 

@@ -1,83 +1,89 @@
-//! Truths by clause number: at place n of a list stands the truth of clause n, and None where it isn't marked.
+//! What is known of clauses by clause number: at place n of a list stands what is known of clause n, and None where it
+//! isn't marked.
 
-ghost use Rattle.std.specs.Prelude.{◌≡◌, ◌≢◌, ◌<◌, ◌++◌, ◌∷◌, [], None, Some, All, AllPairs, IfOk, OnOk, OnErr, length};
+ghost use Rattle.std.specs.Prelude.{◌≡◌, ◌≢◌, ◌≤◌, ◌<◌, ◌++◌, ◌∷◌, [], None, Some, All, AllPairs, IfOk, OnOk, OnErr, length};
 ghost use Rattle.sc_term.specs.Clause.{IsCanonical, IsWithinLimits};
 ghost use Rattle.sc_interp.specs.Marks.{IsMark};
+ghost use Rattle.sc_mark.specs.Known.{IsKnown};
+ghost use Rattle.sc_mark.specs.Changes.{AreChanges};
 ghost use Rattle.sc_mark.specs.Marked.{without_number};
-ghost use Rattle.sc_mark.specs.Marking.{truth_at, AreSame, IsPut, AreTruths};
+ghost use Rattle.sc_mark.specs.Marking.{known_at, AreSame, IsPut, AreKnown};
 
-use sc_interp::{Assign, Tables, Truth, truth};
+use crate::carrying::known_after;
+use crate::known::Known;
+use crate::trying::tried;
+use sc_interp::Tables;
 use sc_term::{Clause, List, Mem, Numbered, copy};
 use std::alloc::Global;
 
 /// What stands at place n, None past the end.
-pub fn truth_of(truths: &[Option<Truth>], n: u32) -> Option<Truth>
-    ensures { result ≡ truth_at truths.now n }
+pub fn known_of(stored: &[Option<Known>], n: u32) -> Option<Known>
+    ensures { result ≡ known_at stored.now n }
 {
     let place = n as usize;
-    if place < truths.len() {
-        truths[place]
+    if place < stored.len() {
+        stored[place]
     } else {
         None
     }
 }
 
 /// Makes place n, where it isn't there.
-fn make_room(truths: &mut List<Option<Truth>>, n: u32) -> Mem<()>
-    ensures room { OnOk result (n < length truths.new) }
-    ensures same { AreSame truths.old truths.new }
+fn make_room(stored: &mut List<Option<Known>>, n: u32) -> Mem<()>
+    ensures room { OnOk result (n < length stored.new) }
+    ensures same { AreSame stored.old stored.new }
 {
     let place = n as usize;
-    while truths.len() <= place {
-        truths.push(None)?;
+    while stored.len() <= place {
+        stored.push(None)?;
     }
     Ok(())
 }
 
 /// Puts the entry at place n, which is there.
-fn put(truths: &mut List<Option<Truth>>, n: u32, entry: Option<Truth>)
-    requires { n < length truths.old }
-    ensures { IsPut n entry truths.old truths.new }
+fn put(stored: &mut List<Option<Known>>, n: u32, entry: Option<Known>)
+    requires { n < length stored.old }
+    ensures { IsPut n entry stored.old stored.new }
 {
-    truths.set(n as usize, entry);
+    stored.set(n as usize, entry);
 }
 
 /// Takes away what stands at place n.
-pub fn clear(truths: &mut List<Option<Truth>>, n: u32)
-    ensures { IsPut n None truths.old truths.new }
+pub fn clear(stored: &mut List<Option<Known>>, n: u32)
+    ensures { IsPut n None stored.old stored.new }
 {
-    if (n as usize) < truths.len() {
-        put(truths, n, None);
+    if (n as usize) < stored.len() {
+        put(stored, n, None);
     }
 }
 
-/// Puts the truth at place n, which is made where it isn't there.
-fn add_truth(truths: &mut List<Option<Truth>>, n: u32, truth: Truth) -> Mem<()>
-    ensures { OnOk result (IsPut n (Some truth) truths.old truths.new) }
+/// Puts what is known at place n, which is made where it isn't there.
+fn add_known(stored: &mut List<Option<Known>>, n: u32, known: Known) -> Mem<()>
+    ensures { OnOk result (IsPut n (Some known) stored.old stored.new) }
 {
-    make_room(truths, n)?;
-    put(truths, n, Some(truth));
+    make_room(stored, n)?;
+    put(stored, n, Some(known));
     Ok(())
 }
 
-/// Adds a copy of the clause behind the clauses, and its truth at its number.
+/// Adds a copy of the clause behind the clauses, and what is known of it at its number.
 pub fn add(
     alloc: Global,
     clauses: &mut Vec<Numbered>,
-    truths: &mut List<Option<Truth>>,
+    stored: &mut List<Option<Known>>,
     n: u32,
     c: &Clause,
-    truth: Truth,
+    known: Known,
 ) -> Mem<()>
     ensures clauses { OnOk result (clauses.new.items ≡ clauses.old.items ++ record { number = n; clause = c.now } ∷ []) }
-    ensures put { OnOk result (IsPut n (Some truth) truths.old truths.new) }
+    ensures put { OnOk result (IsPut n (Some known) stored.old stored.new) }
     ensures refused { OnErr result (clauses.new.items ≡ clauses.old.items) }
-    ensures same { OnErr result (AreSame truths.old truths.new) }
+    ensures same { OnErr result (AreSame stored.old stored.new) }
 {
     let clause = copy(alloc, c)?;
-    make_room(truths, n)?;
+    make_room(stored, n)?;
     clauses.push(Numbered { number: n, clause })?;
-    put(truths, n, Some(truth));
+    put(stored, n, Some(known));
     Ok(())
 }
 
@@ -88,35 +94,70 @@ pub fn leave_out(clauses: &mut Vec<Numbered>, n: u32)
     clauses.retain(|p| p.number != n);
 }
 
-/// The mark of the clause in the tables.
-pub fn truth_in(tables: &Tables, c: &Clause, register: &mut Assign) -> Truth
+/// What is known of the clause in the tables.
+pub fn known_in(tables: &Tables, c: &Clause, register: &mut Vec<u8>) -> Known
     requires canonical { IsCanonical c.now }
     requires within { IsWithinLimits c.now }
-    requires register { register.old ≡ 10000 }
-    ensures mark { IsMark tables.now c.now result }
-    ensures register { register.new ≡ register.old }
+    requires register { length register.old.items ≡ 10000 }
+    ensures known { IsKnown tables.now c.now result }
+    ensures register { length register.new.items ≡ length register.old.items }
 {
-    truth(tables, c, register)
+    tried(tables, c, register.as_mut_slice())
 }
 
-/// The truths of the clauses in the tables, each at the number of its clause.
-pub fn truths_in(
+/// What is known of the clause in the new tables, by what stands at its number of the old ones.
+fn carried_one(
+    old: &Tables,
+    new: &Tables,
+    changes: &[bool],
+    stored: &[Option<Known>],
+    p: &Numbered,
+    register: &mut Vec<u8>,
+) -> Known
+    requires changes { AreChanges old.now.tables new.now.tables changes.now }
+    requires stored { (before : _) → known_at stored.now p.now.number ≡ Some before → IsKnown old.now p.now.clause before }
+    requires canonical { IsCanonical p.now.clause }
+    requires within { IsWithinLimits p.now.clause }
+    requires register { length register.old.items ≡ 10000 }
+    ensures known { IsKnown new.now p.now.clause result }
+    ensures register { length register.new.items ≡ length register.old.items }
+{
+    match known_of(stored, p.number) {
+        Some(before) => known_after(
+            old,
+            new,
+            changes,
+            &p.clause,
+            before,
+            register.as_mut_slice(),
+        ),
+        None => known_in(new, &p.clause, register),
+    }
+}
+
+/// What is known of the clauses in the new tables, each at the number of its clause, by what is known in the old ones.
+pub fn carried(
     alloc: Global,
-    tables: &Tables,
+    old: &Tables,
+    new: &Tables,
+    changes: &[bool],
     clauses: &[Numbered],
-    register: &mut Assign,
-) -> Mem<List<Option<Truth>>>
+    stored: &[Option<Known>],
+    register: &mut Vec<u8>,
+) -> Mem<List<Option<Known>>>
+    requires changes { AreChanges old.now.tables new.now.tables changes.now }
+    requires stored { AreKnown old.now clauses.now stored.now }
     requires apart { AllPairs (λ p q. p.number ≢ q.number) clauses.now }
     requires canonical { All (λ p. IsCanonical p.clause) clauses.now }
     requires within { All (λ p. IsWithinLimits p.clause) clauses.now }
-    requires register { register.old ≡ 10000 }
-    ensures truths { IfOk result (λ truths. AreTruths tables.now clauses.now truths) }
-    ensures register { register.new ≡ register.old }
+    requires register { length register.old.items ≡ 10000 }
+    ensures known { IfOk result (λ carried. AreKnown new.now clauses.now carried) }
+    ensures register { length register.new.items ≡ length register.old.items }
 {
-    let mut truths = List::new(alloc);
+    let mut carried = List::new(alloc);
     for p in clauses {
-        let truth = truth_in(tables, &p.clause, register);
-        add_truth(&mut truths, p.number, truth)?;
+        let known = carried_one(old, new, changes, stored, p, register);
+        add_known(&mut carried, p.number, known)?;
     }
-    Ok(truths)
+    Ok(carried)
 }
