@@ -64,7 +64,8 @@ fn fits(t: &Tables, sym: SymId, place: u32) -> bool
     }
 }
 
-/// The version of size 2 in which so many of the entries are 1: that of p at 1, and that of a.
+/// The version of size 2 in which so many of the entries are 1: that of p at 1, and that of a. With none it is the
+/// opening version.
 fn version(alloc: Global, sig: &Signature, p: SymId, a: SymId, ones: u8) -> Option<Version> {
     let mut tables = Tables::new(alloc, sig, 2).ok()?;
     if ones > 0 && fits(&tables, p, 1) {
@@ -89,18 +90,70 @@ fn carried(alloc: Global, marks: &mut Marks, place: u32, to: &Version) -> Option
     }
 }
 
-/// The marks of `p(a)`: in the opening version, where p is true of 1 and a is 0, where a is 1, and in the opening version.
+/// The mark of clause 1 when all marks were carried to the version in which so many of the entries are 1.
+fn followed(
+    alloc: Global,
+    marks: &mut Marks,
+    sig: &Signature,
+    p: SymId,
+    a: SymId,
+    ones: u8,
+) -> Option<Truth> {
+    let to = version(alloc, sig, p, a, ones)?;
+    carried(alloc, marks, u32::from(ones), &to)
+}
+
+/// The first mark, and those where p is true of 1 and a is 0, where a is 1, and in the opening version again.
+fn all_followed(
+    alloc: Global,
+    marks: &mut Marks,
+    sig: &Signature,
+    p: SymId,
+    a: SymId,
+    first: Truth,
+) -> Option<(Truth, Truth, Truth, Truth)> {
+    let second = followed(alloc, marks, sig, p, a, 1)?;
+    let third = followed(alloc, marks, sig, p, a, 2)?;
+    let last = followed(alloc, marks, sig, p, a, 0)?;
+    Some((first, second, third, last))
+}
+
+fn marks_of(
+    alloc: Global,
+    sig: &Signature,
+    p: SymId,
+    a: SymId,
+    fact: &Clause,
+) -> Option<(Truth, Truth, Truth, Truth)>
+    requires canonical { IsCanonical fact.now }
+    requires within { IsWithinLimits fact.now }
+{
+    let mut marks = Marks::new(alloc, sig).ok()?;
+    let first = marks.mark(alloc, 1, fact).ok()?;
+    all_followed(alloc, &mut marks, sig, p, a, first)
+}
+
+fn marks_over(
+    alloc: Global,
+    sig: &Signature,
+    p: SymId,
+    a: SymId,
+) -> Option<(Truth, Truth, Truth, Truth)> {
+    let fact = fact(alloc, p, a)?;
+    marks_of(alloc, sig, p, a, &fact)
+}
+
+fn symbols(alloc: Global, sig: &mut Signature) -> Option<(SymId, SymId)> {
+    let p = added(alloc, sig, b"p", 1, Role::Predicate)?;
+    let a = added(alloc, sig, b"a", 0, Role::Function)?;
+    Some((p, a))
+}
+
+/// The marks of `p(a)`: in the opening version, and in those of `all_followed`.
 fn marks_of_fact(alloc: Global) -> Option<(Truth, Truth, Truth, Truth)> {
     let mut sig = Signature::new(alloc).ok()?;
-    let p = added(alloc, &mut sig, b"p", 1, Role::Predicate)?;
-    let a = added(alloc, &mut sig, b"a", 0, Role::Function)?;
-    let fact = fact(alloc, p, a)?;
-    let mut marks = Marks::new(alloc, &sig).ok()?;
-    let first = marks.mark(alloc, 1, &fact).ok()?;
-    let second = carried(alloc, &mut marks, 0, &version(alloc, &sig, p, a, 1)?)?;
-    let third = carried(alloc, &mut marks, 1, &version(alloc, &sig, p, a, 2)?)?;
-    let last = carried(alloc, &mut marks, 2, &Version::opening(alloc, &sig).ok()?)?;
-    Some((first, second, third, last))
+    let (p, a) = symbols(alloc, &mut sig)?;
+    marks_over(alloc, &sig, p, a)
 }
 
 #[test]
