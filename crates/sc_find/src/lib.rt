@@ -13,12 +13,12 @@ mod answer;
 mod checking;
 mod find;
 mod job;
-mod mentions;
 mod pieces;
-mod readers;
 mod search;
-mod stretches;
 mod tables;
+mod waking;
+mod watch;
+mod watches;
 
 pub use answer::{Found, FoundAll, JobError, Piece};
 pub use find::find_first;
