@@ -1,11 +1,12 @@
 -- Watches that are linked from the latest on, as one is added and taken away.
 use Rattle.std.proofs.Common.{◌≡◌, ◌∙◌, sym, ap, subst, refl, ℕ, zero, suc, ◌+◌, ◌<◌, ◌≤◌, ◌⊎◌, inl, inr, List, [], ◌∷◌, ◌++◌, length, slice_get, slice_set, Option, Some, None, arith}
-use Rattle.std.proofs.lemmas.List.{length_push}
+use Rattle.std.proofs.lemmas.List.{append-nil, append_assoc, length_push}
+use Rattle.std.proofs.lemmas.List.Elements.{All-cons}
 use Rattle.std.proofs.lemmas.Option.{slice_get_within}
 use Rattle.sc_find_given.proofs.NumberLaws.{get_set_same, get_set_other}
 use Rattle.sc_find.specs.declared.watch.Watch.{Watch}
-use Rattle.sc_find.specs.Linked.{IsLatest, AreLinked}
-use Rattle.sc_find.proofs.InstanceLaws.{each_more}
+use Rattle.sc_find.specs.Linked.{Board, IsLatest, AreLinked}
+use Rattle.sc_find.specs.Watching.{IsTakenBack}
 
 pub front_at : {A : Type 0} (xs ys : List A) (n : ℕ) → n < length xs → slice_get (xs ++ ys) n ≡ slice_get xs n
 front_at [] ys n lt = absurd (omega (arith, lt))
@@ -28,10 +29,17 @@ same_or_other (suc m) (suc n) = elim (same_or_other m n) [
   | inr other ↦ inr (λ e. other (omega (arith, e)))
 ]
 
-set_long : {A : Type 0} (xs : List A) (i : ℕ) (x : A) → length (slice_set xs i x) ≡ length xs
+pub set_long : {A : Type 0} (xs : List A) (i : ℕ) (x : A) → length (slice_set xs i x) ≡ length xs
 set_long [] i x = refl
 set_long (y ∷ ys) zero x = refl
 set_long (y ∷ ys) (suc i) x = ap suc (set_long ys i x)
+
+each_more : {A : Type 0} (P : ℕ → A → Type 0) (xs : List A) (x : A) → ((k : ℕ) (y : A) → slice_get xs k ≡ Some y → P k y) → P (length xs) x
+    → (k : ℕ) (y : A) → slice_get (xs ++ x ∷ []) k ≡ Some y → P k y
+each_more {A} P [] x h here zero y at = let same : x ≡ y = cc in subst (P 0) same here
+each_more {A} P [] x h here (suc k) y at = let none : ◌≡◌ {A = Option A} None (Some y) = at in absurd cc
+each_more P (z ∷ xs) x h here zero y at = h 0 y at
+each_more P (z ∷ xs) x h here (suc k) y at = each_more (λ j. P (suc j)) xs x (λ j w e. h (suc j) w e) here k y at
 
 -- ---- more watches, and fewer
 
@@ -143,3 +151,17 @@ dropped_linked latest ws w linked = record {
       here = λ n y e is. h.here n y e (there n y is);
       after = λ n y from to is. h.after n y from (omega (arith, to, count)) (there n y is);
     }
+
+-- ---- taking away
+
+pub taken_none : (depth : ℕ) (board : Board) → IsTakenBack depth board board
+taken_none depth board = record { cells = refl; gone = []; watches = sym (append-nil board.watches); deeper = λ k d lt. absurd (omega (arith, lt)) }
+
+pub taken_more : (depth : ℕ) (a b c : Board) (front : List Watch) (w : Watch) → IsTakenBack depth a b → b.watches ≡ front ++ w ∷ [] → depth < w.depth → c ≡ record { cells = b.cells; watches = front }
+    → IsTakenBack depth a c
+taken_more depth a b c front w h is deeper gives = record {
+  cells = ap (λ (x : Board). x.cells) gives ∙ h.cells;
+  gone = w ∷ h.gone;
+  watches = h.watches ∙ ap (λ ws. ws ++ h.gone) is ∙ append_assoc front (w ∷ []) h.gone ∙ ap (λ ws. ws ++ w ∷ h.gone) (sym (ap (λ (x : Board). x.watches) gives));
+  deeper = All-cons (λ (x : Watch). depth < x.depth) w h.gone deeper h.deeper;
+}

@@ -243,6 +243,87 @@ module _ (clauses : List Clause) (instances : List GroundInstance) where
             ]
       ]
 
+-- ---- boards that grow
+
+pub grown_none : (many : ℕ) (board : Board) → IsGrown many board board
+grown_none many board = record { cells = refl; added = []; watches = sym (append-nil board.watches); places = λ k d lt. absurd (omega (arith, lt)) }
+
+pub grown_more : (many : ℕ) (a b c : Board) → IsGrown many a b → IsGrown many b c → IsGrown many a c
+grown_more many a b c g h = record {
+  cells = h.cells ∙ g.cells;
+  added = g.added ++ h.added;
+  watches = h.watches ∙ ap (λ ws. ws ++ h.added) g.watches ∙ append_assoc a.watches g.added h.added;
+  places = All-append (λ (w : Watch). w.instance < many) g.added h.added g.places h.places;
+}
+
+pub grown_one : (many : ℕ) (a b : Board) (w : Watch) → b ≡ record { cells = a.cells; watches = a.watches ++ w ∷ [] } → w.instance < many → IsGrown many a b
+grown_one many a b w is lt = record {
+  cells = ap (λ (x : Board). x.cells) is;
+  added = w ∷ [];
+  watches = ap (λ (x : Board). x.watches) is;
+  places = contains_at (λ (w : Watch). w.instance < many) (w ∷ []) (λ x c. by x c);
+}
+  where
+    by : (x : Watch) → Contains (w ∷ []) x → x.instance < many
+    by x (zero, in_it, e) = subst (λ (y : Watch). y.instance < many) e lt
+    by x (suc k, in_it, e) = absurd (omega (arith, in_it))
+
+pub grown_places : (many : ℕ) (a b : Board) → IsGrown many a b → All (λ (w : Watch). w.instance < many) a.watches → All (λ (w : Watch). w.instance < many) b.watches
+grown_places many a b g h = subst (All (λ (w : Watch). w.instance < many)) (sym g.watches) (All-append (λ (w : Watch). w.instance < many) a.watches g.added h g.places)
+
+pub in_place : (many k : ℕ) (ws : List Watch) (w : Watch) → All (λ (w : Watch). w.instance < many) ws → slice_get ws k ≡ Some w → w.instance < many
+in_place many k ws w h is = All-contains (λ (w : Watch). w.instance < many) ws w h (is_first ws k w is)
+
+pub within_grown : (many at n : ℕ) (a b : Board) → IsGrown many a b → at ≤ n → n ≤ length a.watches → at ≤ length b.watches
+within_grown many at n a b g le most = omega (arith, le, most, ap length g.watches, length-append a.watches g.added)
+
+module _ (clauses : List Clause) (instances : List GroundInstance) where
+  -- of the instances so far, and of one more
+  pub each_further : (p : Prefix) (number n : ℕ) (a b : Board) (goes : Bool) → ((n : ℕ) → n < number → IsWatched clauses instances p a.watches n) → IsGrown (length instances) a b
+      → Goes clauses instances p b.watches number goes → goes ≡ true → n < number + 1 → IsWatched clauses instances p b.watches n
+  each_further p number n a b goes each g h is lt = elim (cases_lt n number) [
+    | inl less ↦ subst (λ ws. IsWatched clauses instances p ws n) (sym g.watches) (watched_grown clauses instances p a.watches g.added n (each n less))
+    | inr more ↦
+        let same : number ≡ n = omega (arith, lt, more) in
+        subst (λ k. IsWatched clauses instances p b.watches k) same (subst (Goes clauses instances p b.watches number) is h)
+  ]
+
+  pub one_false : (p : Prefix) (ws : List Watch) (n : ℕ) (goes : Bool) → n < length instances → Goes clauses instances p ws n goes → goes ≡ false → AllGo clauses instances p ws false
+  one_false p ws n goes lt h is =
+      let none : GroundInstance = record { place = 0; values = [] } in
+      let at = slice_get-get_or instances n none lt in
+      (n, get_or instances n none, at, subst (Goes clauses instances p ws n) is h (get_or instances n none) at)
+
+  pub all_first : (p : Prefix) (a b : Board) (cells : ℕ) → a ≡ record { cells = cells; watches = [] } → p.values ≡ [] → IsGrown (length instances) a b
+      → ((n : ℕ) → n < length instances → IsWatched clauses instances p b.watches n) → AreWatched clauses instances p b.watches
+  all_first p a b cells is empty g each =
+      are_first clauses instances p b.watches empty (grown_places (length instances) a b g (subst (All (λ (w : Watch). w.instance < length instances)) (sym (ap (λ (x : Board). x.watches) is)) (λ k d lt. absurd (omega (arith, lt))))) each
+
+  pub wake_first : (p : Prefix) (cell at : ℕ) (a : Board) → IsLatest a.watches (length a.watches) cell at → IsWaking clauses instances p cell a.watches a.watches at
+  wake_first p cell at a h = waking_first clauses instances p cell a.watches at h
+
+  pub wake_step : (p : Prefix) (cell at : ℕ) (start now next : Board) (w : Watch) → IsGrown (length instances) start now → IsWaking clauses instances p cell start.watches now.watches at → 1 ≤ at
+      → slice_get now.watches (at - 1) ≡ Some w → IsLatest now.watches (at - 1) w.cell w.next → IsGrown (length instances) now next
+      → IsWatched clauses instances p next.watches w.instance → IsWaking clauses instances p cell start.watches next.watches w.next
+  wake_step p cell at start now next w g waking some there latest more watched =
+      let before = subst (λ ws. IsWaking clauses instances p cell start.watches ws at) (sym more.watches) (waking_more clauses instances p cell start.watches now.watches more.added at waking) in
+      waking_next clauses instances p cell start.watches g.added next.watches at (at - 1) w before (omega (arith, some))
+      (subst (λ ws. slice_get ws (at - 1) ≡ Some w) g.watches there) (subst (λ ws. IsLatest ws (at - 1) w.cell w.next) g.watches latest) watched
+
+  pub wake_last : (p : Prefix) (before : List ℕ) (v cell at : ℕ) (start now : Board) → p.values ≡ before ++ v ∷ [] → cell ≡ length before → length p.values ≤ length p.cells
+      → AreWatched clauses instances (record { cells = p.cells; values = before }) start.watches → IsGrown (length instances) start now
+      → IsWaking clauses instances p cell start.watches now.watches at → at ≡ 0 → AreWatched clauses instances p now.watches
+  wake_last p before v cell at start now is here few was g waking none =
+      let q : Prefix = record { cells = p.cells; values = before ++ v ∷ [] } in
+      let whole : p ≡ q = λ i. record { cells = p.cells; values = is i } in
+      let room : length before < length p.cells = omega (arith, few, ap length is, length_push before v) in
+      let one = subst (λ ws. IsWaking clauses instances p cell start.watches ws at) g.watches waking in
+      let two = subst (λ k. IsWaking clauses instances p k start.watches (start.watches ++ g.added) at) here one in
+      let three = subst (λ k. IsWaking clauses instances p (length before) start.watches (start.watches ++ g.added) k) none two in
+      let four = subst (λ x. IsWaking clauses instances x (length before) start.watches (start.watches ++ g.added) 0) whole three in
+      subst (λ x. AreWatched clauses instances x now.watches) (sym whole) (subst (AreWatched clauses instances q) (sym g.watches)
+      (are_next clauses instances p.cells before v start.watches g.added was g.places (waking_last clauses instances p.cells before v start.watches g.added was room four)))
+
 -- ---- for a task
 
 one_instances : (clauses : List Clause) (size : ℕ) (xs ys : List GroundInstance) → AreInstances clauses size xs → AreInstances clauses size ys → xs ≡ ys
@@ -273,6 +354,15 @@ module _ (task : Task) (instances : List GroundInstance) (some : 1 ≤ task.size
       All-contains (λ i. ¬ IsFalseInstance task.clauses p i) instances one.1 (consistent_instances task.clauses task.size instances some are p consistent)
       (is_first instances one.0 one.1 one.2) one.3
 
+-- what the checks answer, which see the clauses and the instances as lists of their own
+pub go_same : (clauses cs : List Clause) (instances is : List GroundInstance) (p : Prefix) (ws : List Watch) (b : Bool) → cs ≡ clauses → is ≡ instances → AllGo cs is p ws b
+    → AllGo clauses instances p ws b
+go_same clauses cs instances is p ws b same all h = subst (λ xs. AllGo clauses xs p ws b) all (subst (λ xs. AllGo xs is p ws b) same h)
+
+pub watched_same : (clauses cs : List Clause) (instances is : List GroundInstance) (p : Prefix) (ws : List Watch) → cs ≡ clauses → is ≡ instances → AreWatched clauses instances p ws
+    → AreWatched cs is p ws
+watched_same clauses cs instances is p ws same all h = subst (λ xs. AreWatched cs xs p ws) (sym all) (subst (λ xs. AreWatched xs instances p ws) (sym same) h)
+
 pub watching_back : (task : Task) (p q : Prefix) (v : ℕ) (before after : Board) → q ≡ record { cells = p.cells; values = p.values ++ v ∷ [] } → IsWatching task q before
     → IsTakenBack (length p.values) before after → IsWatching task p after
 watching_back task p q v before after is h t =
@@ -284,6 +374,23 @@ watching_back task p q v before after is h t =
       watched = are_taken task.clauses was.instances p after.watches t.gone t.deeper
           (are_front task.clauses was.instances p.cells p.values v (after.watches ++ t.gone) (subst (AreWatched task.clauses was.instances (record { cells = p.cells; values = p.values ++ v ∷ [] })) t.watches was.watched));
     }
+
+-- what a value was put behind is what is left without it
+abbrev front_of : List ℕ → List ℕ
+front_of [] = []
+front_of (x ∷ []) = []
+front_of (x ∷ y ∷ ys) = x ∷ front_of (y ∷ ys)
+
+front_push : (xs : List ℕ) (v : ℕ) → front_of (xs ++ v ∷ []) ≡ xs
+front_push [] v = refl
+front_push (x ∷ []) v = refl
+front_push (x ∷ y ∷ ys) v = ap (λ zs. x ∷ zs) (front_push (y ∷ ys) v)
+
+pub same_front : (p q r : Prefix) (v w : ℕ) → r ≡ record { cells = p.cells; values = p.values ++ v ∷ [] } → r ≡ record { cells = q.cells; values = q.values ++ w ∷ [] } → p ≡ q
+same_front p q r v w one two =
+    let cells : p.cells ≡ q.cells = ap (λ (x : Prefix). x.cells) (sym one ∙ two) in
+    let values : p.values ≡ q.values = sym (front_push p.values v) ∙ ap (λ (x : Prefix). front_of x.values) (sym one ∙ two) ∙ front_push q.values w in
+    λ i. record { cells = cells i; values = values i }
 
 pub watching_kept : (task : Task) (p : Prefix) (before after : Board) → IsWatching task p before → IsTakenBack (length p.values) before after → IsWatching task p after
 watching_kept task p before after h t = record {

@@ -52,8 +52,8 @@ fn found(
 }
 
 /// The first model of the job, or of the piece; that there is none; or that the plain count of nodes is more than the
-/// budget (`IsFound`). The piece has to be one of the job's. A node allocates nothing, and its time is that of the
-/// instances that may read its cell.
+/// budget (`IsFound`). The piece has to be one of the job's. A node's time is that of the instances that wait for its cell;
+/// memory is taken for watches alone, of which no instance has more at a time than entries that it reads.
 pub fn find_first(alloc: Global, job: &Job, piece: Piece, budget: u64) -> Mem<Found>
     requires { (value : AnOption ℕ) × IsAsked job.now piece value }
     ensures { IfOk result (λ found. (value : AnOption ℕ) → IsAsked job.now piece value → IsFound job.now value budget found) }

@@ -165,28 +165,29 @@ impl Job<'_> {
         ensures consistent { IfOk result (λ all. all ≡ true → IsConsistent self.now.clauses self.now.size given.now) }
         ensures refused { IfOk result (λ all. all ≡ false → ¬ IsConsistent self.now.clauses self.now.size given.now) }
     {
-        watch_all(
+        Ok(watch_all(
             given,
             watches,
             self.clauses.as_slice(),
             self.ground.instances().as_slice(),
-        )
+        )?)
     }
 
     /// Looks again at the instances that waited for the last cell with a value.
     fn wake(&self, given: &Given, watches: &mut Watches) -> Mem<bool>
-        requires { (before : AList ℕ) × (v : ℕ) × (given.now.values ≡ before ++ v ∷ []) × IsWatching self.now (record { cells = given.now.cells; values = before }) watches.old }
+        requires few { length given.now.values ≤ length given.now.cells }
+        requires last { (before : AList ℕ) × (v : ℕ) × (given.now.values ≡ before ++ v ∷ []) × IsWatching self.now (record { cells = given.now.cells; values = before }) watches.old }
         ensures watched { IfOk result (λ all. all ≡ true → IsWatching self.now given.now watches.new) }
         ensures consistent { IfOk result (λ all. all ≡ true → IsConsistent self.now.clauses self.now.size given.now) }
         ensures refused { IfOk result (λ all. all ≡ false → ¬ IsConsistent self.now.clauses self.now.size given.now) }
         ensures kept { OnOk result ((p : Prefix) → IsWatching self.now p watches.old → IsWatching self.now p watches.new) }
     {
-        wake(
+        Ok(wake(
             given,
             watches,
             self.clauses.as_slice(),
             self.ground.instances().as_slice(),
-        )
+        )?)
     }
 
     /// Gives the next cell the value, if no instance is then false: none is before. Otherwise nothing changes.

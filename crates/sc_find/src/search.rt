@@ -61,7 +61,8 @@ pub fn search(
         let number = given.len();
         let end = end_value(piece, number, job.count_values_at(number));
         if next < end {
-            if job.enters(given, watches, next)? {
+            let enters = job.enters(given, watches, next)?;
+            if enters {
                 if nodes == budget {
                     return Ok(SearchEnd::Spent);
                 }

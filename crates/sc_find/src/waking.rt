@@ -27,9 +27,10 @@ fn watch(
 {
     match waits(given, clauses, &instances[number]) {
         Some(cell) => {
-            if cell < given.cell_len() {
-                watches.add(number, cell, given.len())?;
+            if cell >= given.cell_len() {
+                return Ok(true);
             }
+            watches.add(number, cell, given.len())?;
             Ok(true)
         }
         None => Ok(false),
