@@ -10,7 +10,7 @@ use Rattle.sc_cells.specs.declared.cells.Cell.{Cell}
 use Rattle.sc_cells.specs.declared.instances.GroundInstance.{GroundInstance}
 use Rattle.sc_cells.specs.Cells.{Entry, IsCell, AreCells, cell_at, cell_numbers, values_below}
 use Rattle.sc_find.specs.Models.{Task, IsPiece}
-use Rattle.sc_find.specs.Prepared.{AreReaders, IsPrepared}
+use Rattle.sc_find.specs.Prepared.{IsPrepared}
 use Rattle.sc_find.proofs.OneLaws.{one_order}
 
 pub one_list : (sig : List Symbol) (size : ℕ) (xs ys : List Entry) → AreCells sig size xs → AreCells sig size ys → xs ≡ ys
@@ -39,7 +39,7 @@ entry_there size entries k cell at = by (slice_get entries k) (sym (slice_get-ma
         out : (a b : Cell) → ◌≡◌ {A = Option Cell} (Some a) (Some b) → b ≡ a
         out a b e = cc
 
-module _ (task : Task) (cells : List Cell) (instances : List GroundInstance) (readers : List (List ℕ)) (job : IsPrepared task cells instances readers) where
+module _ (task : Task) (cells : List Cell) (instances : List GroundInstance) (job : IsPrepared task cells instances) where
   pub symbols_within : All (λ (cell : Cell). cell.sym.0 < length task.sig) cells
   symbols_within = subst (All (λ (cell : Cell). cell.sym.0 < length task.sig)) (sym job.listed) (symbols_there task.sig task.size job.entries job.are_cells)
 
@@ -49,15 +49,9 @@ module _ (task : Task) (cells : List Cell) (instances : List GroundInstance) (re
   pub as_many : (entries : List Entry) → AreCells task.sig task.size entries → length cells ≡ length entries
   as_many entries h = ap length job.listed ∙ length-map job.entries (cell_at task.size) ∙ ap length (same_entries entries h)
 
-  pub as_many_readers : (entries : List Entry) → AreCells task.sig task.size entries → length readers ≡ length entries
-  as_many_readers entries h = job.many ∙ ap length (same_entries entries h)
-
   pub cell_of : (entries : List Entry) (k : ℕ) (entry : Entry) → AreCells task.sig task.size entries → slice_get entries k ≡ Some entry → slice_get cells k ≡ Some (cell_at task.size entry)
   cell_of entries k entry h at =
       ap (λ cs. slice_get cs k) job.listed ∙ cell_there task.size job.entries k entry (ap (λ es. slice_get es k) (same_entries entries h) ∙ at)
-
-  pub readers_of_cell : (entries : List Entry) (k : ℕ) (rs : List ℕ) → AreCells task.sig task.size entries → slice_get readers k ≡ Some rs → AreReaders task.clauses instances entries k rs
-  readers_of_cell entries k rs h at = subst (λ es. AreReaders task.clauses instances es k rs) (same_entries entries h) (job.each k rs at)
 
   -- ---- pieces
 

@@ -11,6 +11,5 @@ pub mod TableLaws
 pub mod StepLaws
 pub mod PieceLaws
 pub mod CellTables
-pub mod MentionLaws
-pub mod StretchLaws
-pub mod ReaderLaws
+pub mod LinkLaws
+pub mod WatchLaws

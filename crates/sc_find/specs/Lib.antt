@@ -2,4 +2,5 @@ pub mod Models
 pub mod Prepared
 pub mod Answers
 pub mod Search
-pub mod Asked
+pub mod Linked
+pub mod Watching

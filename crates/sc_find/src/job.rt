@@ -1,16 +1,17 @@
 //! A job: what is asked for, made ready for searches.
 
 ghost use Rattle.std.specs.Prelude.{◌≡◌, ◌<◌, ◌≤◌, ◌↔◌, ℕ, List as AList, Option as AnOption, All, [], ◌∷◌, ◌++◌, IfOk, IfErr, OnOk, IsTrue, Some, false, true, length, slice_get, map};
-ghost use Rattle.sc_cells.specs.Cells.{Entry, AreCells, AreValues, IsConsistent, cell_at, below_of, cell_count, values_below};
+ghost use Rattle.sc_cells.specs.Cells.{Entry, Prefix, AreCells, AreValues, IsConsistent, cell_at, below_of, cell_count, values_below};
 ghost use Rattle.sc_cells.specs.declared.cells.Cell.{Cell as ACell};
 ghost use Rattle.sc_cells.specs.Ground.{AreInstances, instance_count};
 ghost use Rattle.sc_find.specs.Answers.{IsCauseOfJob};
 ghost use Rattle.sc_find.specs.Models.{AreTablesWith, IsPiece};
+ghost use Rattle.sc_find.specs.Watching.{IsWatching};
 
 use crate::answer::JobError;
-use crate::checking::{none_is_false, none_there_is_false};
-use crate::readers::all_readers;
 use crate::tables::{empty_tables, fill};
+use crate::waking::{take_back, wake, watch_all};
+use crate::watches::Watches;
 use sc_cells::{Cell, CellsError, Ground, GroundError, cells_of, ground};
 use sc_find_given::Given;
 use sc_interp::Tables;
@@ -26,7 +27,6 @@ pub struct Job<'a> {
     size: u8,
     cells: List<Cell>,
     ground: Ground,
-    readers: Vec<List<usize>>,
 }
 
 impl<'a> Model for Job<'a> {
@@ -41,7 +41,7 @@ impl<'a> Model for Job<'a> {
 
     ghost view = { λ j. record { sig = j.sig.now; clauses = j.clauses.now; size = j.size } };
 
-    ghost invariant = { λ j. IsPrepared (record { sig = j.sig.now; clauses = j.clauses.now; size = j.size }) j.cells j.ground j.readers.items };
+    ghost invariant = { λ j. IsPrepared (record { sig = j.sig.now; clauses = j.clauses.now; size = j.size }) j.cells j.ground };
 }
 
 fn list_cells(alloc: Global, sig: &Signature, size: u8) -> Result<List<Cell>, JobError>
@@ -114,26 +114,12 @@ impl<'a> Job<'a> {
     {
         let cells = list_cells(alloc, sig, size)?;
         let ground = list_instances(alloc, clauses, size)?;
-        let Ok(given) = Given::new(alloc, sig, size, &cells) else {
-            return Err(JobError::OutOfMemory);
-        };
-        let Ok(readers) = all_readers(
-            alloc,
-            clauses.as_slice(),
-            ground.instances().as_slice(),
-            &given,
-            cells.as_slice(),
-            sig.len(),
-        ) else {
-            return Err(JobError::OutOfMemory);
-        };
         Ok(Job {
             sig,
             clauses,
             size,
             cells,
             ground,
-            readers,
         })
     }
 }
@@ -171,51 +157,55 @@ impl Job<'_> {
         Ok(Given::new(alloc, self.sig, self.size, &self.cells)?)
     }
 
-    /// Whether no instance is false by the values.
-    pub(crate) fn is_consistent(&self, given: &Given) -> bool
-        ensures { IsTrue result ↔ IsConsistent self.now.clauses self.now.size given.now }
+    /// Watches for the instances where no cell has a value, unless one of them is false.
+    pub(crate) fn watch(&self, given: &Given, watches: &mut Watches) -> Mem<bool>
+        requires empty { given.now.values ≡ [] }
+        requires none { watches.old ≡ record { cells = length given.now.cells; watches = [] } }
+        ensures watched { IfOk result (λ all. all ≡ true → IsWatching self.now given.now watches.new) }
+        ensures consistent { IfOk result (λ all. all ≡ true → IsConsistent self.now.clauses self.now.size given.now) }
+        ensures refused { IfOk result (λ all. all ≡ false → ¬ IsConsistent self.now.clauses self.now.size given.now) }
     {
-        none_is_false(
+        Ok(watch_all(
             given,
+            watches,
             self.clauses.as_slice(),
             self.ground.instances().as_slice(),
-        )
+        )?)
     }
 
-    /// Whether no instance is false by the values, of which the last is new: without it none is. Looks only at the
-    /// instances that may read its cell.
-    fn stays_consistent(&self, given: &Given, number: usize) -> bool
-        requires cells { AreCells self.now.sig self.now.size given.now.cells }
-        requires number { number < length given.now.cells }
-        requires before { (values : AList ℕ) × (v : ℕ) × (length values ≡ number) × (given.now.values ≡ values ++ v ∷ [])
-            × IsConsistent self.now.clauses self.now.size (record { cells = given.now.cells; values = values }) }
-        ensures { IsTrue result ↔ IsConsistent self.now.clauses self.now.size given.now }
+    /// Looks again at the instances that waited for the last cell with a value.
+    fn wake(&self, given: &Given, watches: &mut Watches) -> Mem<bool>
+        requires few { length given.now.values ≤ length given.now.cells }
+        requires last { (before : AList ℕ) × (v : ℕ) × (given.now.values ≡ before ++ v ∷ []) × IsWatching self.now (record { cells = given.now.cells; values = before }) watches.old }
+        ensures watched { IfOk result (λ all. all ≡ true → IsWatching self.now given.now watches.new) }
+        ensures consistent { IfOk result (λ all. all ≡ true → IsConsistent self.now.clauses self.now.size given.now) }
+        ensures refused { IfOk result (λ all. all ≡ false → ¬ IsConsistent self.now.clauses self.now.size given.now) }
+        ensures kept { OnOk result ((p : Prefix) → IsWatching self.now p watches.old → IsWatching self.now p watches.new) }
     {
-        none_there_is_false(
+        Ok(wake(
             given,
+            watches,
             self.clauses.as_slice(),
             self.ground.instances().as_slice(),
-            self.readers[number].as_slice(),
-        )
+        )?)
     }
 
     /// Gives the next cell the value, if no instance is then false: none is before. Otherwise nothing changes.
-    pub(crate) fn enters(&self, given: &mut Given, value: u8) -> bool
-        requires cells { AreCells self.now.sig self.now.size given.old.cells }
+    pub(crate) fn enters(&self, given: &mut Given, watches: &mut Watches, value: u8) -> Mem<bool>
         requires room { length given.old.values < length given.old.cells }
-        requires before { IsConsistent self.now.clauses self.now.size given.old }
-        ensures entered { result ≡ true → given.new ≡ record given.old { values = given.old.values ++ value ∷ [] } }
-        ensures consistent { result ≡ true → IsConsistent self.now.clauses self.now.size (record given.old { values = given.old.values ++ value ∷ [] }) }
-        ensures kept { result ≡ false → given.new ≡ given.old }
-        ensures refused { result ≡ false → ¬ IsConsistent self.now.clauses self.now.size (record given.old { values = given.old.values ++ value ∷ [] }) }
+        requires before { IsWatching self.now given.old watches.old }
+        ensures entered { IfOk result (λ enters. enters ≡ true → given.new ≡ record given.old { values = given.old.values ++ value ∷ [] }) }
+        ensures consistent { IfOk result (λ enters. enters ≡ true → IsConsistent self.now.clauses self.now.size (record given.old { values = given.old.values ++ value ∷ [] })) }
+        ensures kept { IfOk result (λ enters. enters ≡ false → given.new ≡ given.old) }
+        ensures refused { IfOk result (λ enters. enters ≡ false → ¬ IsConsistent self.now.clauses self.now.size (record given.old { values = given.old.values ++ value ∷ [] })) }
+        ensures watched { OnOk result (IsWatching self.now given.new watches.new) }
     {
-        let number = given.len();
         given.push(value);
-        let stays = self.stays_consistent(given, number);
+        let stays = self.wake(given, watches)?;
         if !stays {
-            let _ = given.pop();
+            let _ = take_back(given, watches);
         }
-        stays
+        Ok(stays)
     }
 
     /// The tables that have the values, which are those of a model.

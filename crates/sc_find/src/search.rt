@@ -1,12 +1,15 @@
 //! The search, depth first, for the first model.
 
-ghost use Rattle.std.specs.Prelude.{◌≡◌, []};
+ghost use Rattle.std.specs.Prelude.{◌≡◌, [], IfOk};
 ghost use Rattle.sc_cells.specs.Cells.{AreCells, IsConsistent};
 ghost use Rattle.sc_find.specs.Search.{HasEnded, first_of, end_of};
+ghost use Rattle.sc_find.specs.Watching.{IsWatching};
 
 use crate::job::Job;
+use crate::waking::take_back;
+use crate::watches::Watches;
 use sc_find_given::Given;
-use sc_term::MAX_SIZE;
+use sc_term::{MAX_SIZE, Mem};
 
 /// How a search ended: all cells have values, every value was tried, or there would be more nodes than the budget.
 #[derive(Clone, Copy, Debug, PartialEq, Eq)]
@@ -39,11 +42,18 @@ fn end_value(piece: Option<u8>, number: usize, count: u8) -> u8
 /// Gives the cells the values of the first model in which cell 0 has the value of the piece, if one is asked for, or
 /// says that there is none or that the plain count of nodes exceeds the budget. It gives up before it enters more nodes
 /// than the budget, which no clause says: a better search may go on.
-pub fn search(job: &Job, piece: Option<u8>, budget: u64, given: &mut Given) -> SearchEnd
+pub fn search(
+    job: &Job,
+    piece: Option<u8>,
+    budget: u64,
+    given: &mut Given,
+    watches: &mut Watches,
+) -> Mem<SearchEnd>
     requires cells { AreCells job.now.sig job.now.size given.old.cells }
     requires empty { given.old.values ≡ [] }
     requires consistent { IsConsistent job.now.clauses job.now.size given.old }
-    ensures { HasEnded job.now piece budget given.old.cells given.new result }
+    requires watched { IsWatching job.now given.old watches.old }
+    ensures { IfOk result (HasEnded job.now piece budget given.old.cells given.new) }
 {
     let mut next = first_value(piece);
     let mut nodes: u64 = 0;
@@ -51,9 +61,10 @@ pub fn search(job: &Job, piece: Option<u8>, budget: u64, given: &mut Given) -> S
         let number = given.len();
         let end = end_value(piece, number, job.count_values_at(number));
         if next < end {
-            if job.enters(given, next) {
+            let enters = job.enters(given, watches, next)?;
+            if enters {
                 if nodes == budget {
-                    return SearchEnd::Spent;
+                    return Ok(SearchEnd::Spent);
                 }
                 nodes += 1;
                 next = 0;
@@ -62,10 +73,10 @@ pub fn search(job: &Job, piece: Option<u8>, budget: u64, given: &mut Given) -> S
             }
         } else {
             if number == 0 {
-                return SearchEnd::Exhausted;
+                return Ok(SearchEnd::Exhausted);
             }
-            next = given.pop() + 1;
+            next = take_back(given, watches) + 1;
         }
     }
-    SearchEnd::Full
+    Ok(SearchEnd::Full)
 }

@@ -1,9 +1,7 @@
 -- What a partial interpretation keeps, taken to the prefix that it is seen as.
-use Rattle.std.proofs.Common.{◌≡◌, ◌∙◌, sym, ap, subst, ℕ, ◌≤◌, ◌↔◌, Bool, IsTrue, false, List, map, take, drop, length, get_or, Some, IsSomeAnd, slice_get, arith}
+use Rattle.std.proofs.Common.{◌≡◌, ◌∙◌, sym, ap, subst, ℕ, ◌≤◌, Option, Some, None, List, [], ◌++◌, map, take, drop, length, get_or, arith}
 use Rattle.std.specs.List.{All}
-use Rattle.std.specs.Option.{option_map}
-use Rattle.std.proofs.lemmas.List.{length-map, length-take}
-use Rattle.std.proofs.lemmas.Option.{slice_get-map}
+use Rattle.std.proofs.lemmas.List.{append-nil, length-map, length-take}
 use Rattle.sc_term.specs.declared.Literal.{Literal}
 use Rattle.sc_term.specs.Interpretation.{Assignment}
 use Rattle.sc_term.specs.declared.symbol.Symbol.{Symbol}
@@ -14,40 +12,31 @@ use Rattle.sc_find_given.specs.declared.slot.Slot.{Slot}
 use Rattle.sc_find_given.specs.Lookup.{look_up, IsFoundFalse}
 use Rattle.sc_find_given.specs.Keeping.{entry_of, slot_entries, AreIndexed, IsKept}
 use Rattle.sc_find_given.specs.Numbering.{blank_row, HasRow, HaveRows, AreBlank, AreApart}
-use Rattle.sc_find_given.specs.Reading.{clause_reads, IsLeft}
+use Rattle.sc_find_given.specs.Waiting.{Decides, IsWaiting}
 use Rattle.sc_find_given.proofs.GivenLaws.{false_is}
-use Rattle.sc_find_given.proofs.ReadingLaws.{clause_left}
 use Rattle.sc_find_given.proofs.NumberLaws.{rows_blank, has_blank, cells_apart}
 
 abbrev pub seen : List Slot → List ℕ → ℕ → Prefix
 seen slots values len = record { cells = slot_entries slots; values = take len values }
 
-pub false_by : (size : ℕ) (rows : List Row) (slots : List Slot) (values : List ℕ) (len : ℕ) → IsKept size rows slots values len → (p : Prefix) → seen slots values len ≡ p
-    → (given : List ℕ) → given ≡ p.values → (a : Assignment) (ls : List Literal) (r : Bool)
-    → IsTrue r ↔ All (IsFoundFalse (look_up size rows given) a) ls → IsTrue r ↔ All (IsFalseBy p a) ls
-false_by size rows slots values len kept p is given same a ls r h =
-    let values_are : given ≡ take len values = same ∙ ap (λ (q : Prefix). q.values) (sym is) in
-    let few : length (take len values) ≤ length (slot_entries slots) = omega (arith, length-take len values, length-map slots entry_of, kept.room) in
-    let law : IsFoundFalse (look_up size rows (take len values)) a ≡ IsFalseBy (seen slots values len) a = false_is size rows (slot_entries slots) (take len values) kept.indexed few a in
-    let found : IsTrue r ↔ All (IsFoundFalse (look_up size rows (take len values)) a) ls
-    = subst (λ (vs : List ℕ). IsTrue r ↔ All (IsFoundFalse (look_up size rows vs) a) ls) values_are h in
-    let false_so : IsTrue r ↔ All (IsFalseBy (seen slots values len) a) ls = subst (λ (P : Literal → Type 0). IsTrue r ↔ All P ls) law found in
-    subst (λ (q : Prefix). IsTrue r ↔ All (IsFalseBy q a) ls) is false_so
+-- what the rows decide is what the prefix waits for
+pub waits_by : (size : ℕ) (rows : List Row) (slots : List Slot) (values : List ℕ) (len : ℕ) → IsKept size rows slots values len → (p : Prefix) → seen slots values len ≡ p
+    → (given : List ℕ) → given ≡ p.values → (a : Assignment) (ls : List Literal) (r : Option ℕ)
+    → Decides (λ g. All (IsFoundFalse (look_up size rows g) a) ls) given r → IsWaiting ls a p r
+waits_by size rows slots values len kept p is given same a ls r h = by r (subst (λ (vs : List ℕ). Decides (λ g. All (IsFoundFalse (look_up size rows g) a) ls) vs r) same h)
+  where
+    cells_are : slot_entries slots ≡ p.cells
+    cells_are = ap (λ (q : Prefix). q.cells) is
 
--- the cell of a slot
-pub cell_there : (slots : List Slot) (values : List ℕ) (len : ℕ) (p : Prefix) → seen slots values len ≡ p → (n : ℕ) (slot : Slot) → slice_get slots n ≡ Some slot
-    → slice_get p.cells n ≡ Some (entry_of slot)
-cell_there slots values len p is n slot here =
-    ap (λ (q : Prefix). slice_get q.cells n) (sym is) ∙ slice_get-map entry_of slots n ∙ ap (option_map entry_of) here
+    few : length p.values ≤ length p.cells
+    few = subst (λ (q : Prefix). length q.values ≤ length q.cells) is (omega (arith, length-take len values, length-map slots entry_of, kept.room))
 
-pub read_is : (p : Prefix) (n : ℕ) (cell : Entry) (a : Assignment) (ls : List Literal) (r : Bool) → slice_get p.cells n ≡ Some cell → r ≡ clause_reads cell a ls
-    → IsSomeAnd (slice_get p.cells n) (λ cell. r ≡ clause_reads cell a ls)
-read_is p n cell a ls r here is = subst (λ o. IsSomeAnd o (λ cell. r ≡ clause_reads cell a ls)) (sym here) is
+    law : (vs : List ℕ) → length vs ≤ length p.cells → IsFoundFalse (look_up size rows vs) a ≡ IsFalseBy (record { cells = p.cells; values = vs }) a
+    law vs most = false_is size rows p.cells vs (subst (AreIndexed size rows) cells_are kept.indexed) most a
 
-pub read_left : (p : Prefix) (n : ℕ) (cell : Entry) (a : Assignment) (ls : List Literal) (r : Bool) → slice_get p.cells n ≡ Some cell → r ≡ clause_reads cell a ls
-    → r ≡ false → (before : List ℕ) (v : ℕ) → length before ≡ n → IsLeft ls a p.cells before v
-read_left p n cell a ls r here is not_so before v long =
-    clause_left p.cells before v cell (ap (slice_get p.cells) long ∙ here) a ls (sym is ∙ not_so)
+    by : (r : Option ℕ) → Decides (λ g. All (IsFoundFalse (look_up size rows g) a) ls) p.values r → IsWaiting ls a p r
+    by None h = subst (λ (P : Literal → Type 0). All P ls) (law p.values few) (subst (λ (vs : List ℕ). All (IsFoundFalse (look_up size rows vs) a) ls) (append-nil p.values) (h []))
+    by (Some cell) h = (h.0, λ more within most all. h.1 more most (subst (λ (P : Literal → Type 0). All P ls) (sym (law (p.values ++ more) within)) all))
 
 -- ---- at the start
 

@@ -1,7 +1,7 @@
 pub mod PlaceLaws
 pub mod LookupLaws
+pub mod WaitingLaws
 pub mod GivenLaws
-pub mod ReadingLaws
 pub mod DigitLaws
 pub mod NumberLaws
 pub mod KeptLaws

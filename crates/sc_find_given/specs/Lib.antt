@@ -1,4 +1,4 @@
 pub mod Lookup
 pub mod Keeping
 pub mod Numbering
-pub mod Reading
+pub mod Waiting

@@ -1,13 +1,11 @@
 //! Values for the first cells.
 
-ghost use Rattle.std.specs.Prelude.{◌≡◌, ℕ, ◌+◌, ◌<◌, ◌≤◌, ◌^◌, ◌↔◌, List as AList, [], ◌∷◌, ◌++◌, All, IsTrue, IfOk, IsSomeAnd, map, length, slice_get, slice_index, false};
-ghost use Rattle.sc_cells.specs.Cells.{Entry, Prefix, AreCells, cell_at, IsFalseBy};
-ghost use Rattle.sc_find_given.specs.Keeping.{entry_of};
-ghost use Rattle.sc_find_given.specs.Reading.{clause_reads, IsLeft};
+ghost use Rattle.std.specs.Prelude.{◌≡◌, ℕ, ◌+◌, ◌<◌, ◌≤◌, ◌^◌, List as AList, [], ◌∷◌, ◌++◌, IfOk, map, length, slice_index};
+ghost use Rattle.sc_cells.specs.Cells.{Entry, Prefix, AreCells, cell_at};
+ghost use Rattle.sc_find_given.specs.Waiting.{IsWaiting};
 
-use crate::evaluate::is_clause_false;
+use crate::evaluate::clause_waits;
 use crate::number::{blank_rows, number_cells, slots_of};
-use crate::reads::clause_reads;
 use crate::row::Row;
 use crate::slot::Slot;
 use sc_cells::Cell;
@@ -101,28 +99,18 @@ impl Given {
         self.values[self.len]
     }
 
-    /// Whether each literal of the clause is false, where variable n has element n of `values` (0 past the end), and all
-    /// entries that it reads are given.
-    pub fn is_false(&self, clause: &Clause, values: &[u8]) -> bool
-        ensures { IsTrue result ↔ All (IsFalseBy self.now (slice_index values.now)) clause.now.literals }
+    /// The cell without a value that the clause waits for, where variable n has element n of `values` (0 past the end):
+    /// up to it no more values make all literals false. It is past the last one where none does. None, where each literal
+    /// is false and all entries that it reads are given.
+    pub fn waits(&self, clause: &Clause, values: &[u8]) -> Option<usize>
+        ensures { IsWaiting clause.now.literals (slice_index values.now) self.now result }
     {
-        is_clause_false(
+        clause_waits(
             self.size,
             self.rows.as_slice(),
             self.values(),
             values,
             clause,
         )
-    }
-
-    /// Whether the evaluation of some literal may read the cell of that number, from 0. Where it may not, the value of
-    /// that cell makes no difference to `is_false` as the cells get values one after another.
-    pub fn may_read(&self, clause: &Clause, values: &[u8], number: usize) -> bool
-        requires { number < length self.now.cells }
-        ensures value { IsSomeAnd (slice_get self.now.cells number) (λ cell. result ≡ clause_reads cell (slice_index values.now) clause.now.literals) }
-        ensures left { result ≡ false → (before : AList ℕ) (v : ℕ) → length before ≡ number → IsLeft clause.now.literals (slice_index values.now) self.now.cells before v }
-    {
-        let slots = self.slots.as_slice();
-        clause_reads(values, clause, &slots[number])
     }
 }

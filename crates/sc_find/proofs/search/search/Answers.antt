@@ -1,11 +1,8 @@
 use Rattle.std.proofs.Common.{arith}
 use Rattle.sc_find.proofs.StepLaws as step
+use Rattle.sc_find.proofs.WatchLaws.{watching_back}
 use Rattle.sc_find.proofs.StepLaws.{IsAt}
 use Rattle.sc_find.proofs.search.search.Goals as goal
-
-pub enters-requires-clause-before : goal.enters-requires-clause-before
-enters-requires-clause-before c =
-    step.consistent_so_far c.args.job.now c.args.piece c.args.given.now.cells c.loop-piece.given c.loop-piece.next c.loop-piece.nodes c.loop-piece.invariant.cells c.loop-piece.invariant.searching
 
 pub returns-then-nodes-budget : goal.returns-then-nodes-budget
 returns-then-nodes-budget c =
@@ -21,7 +18,7 @@ returns-then-nodes-budget c =
       small = c.count_values_at.ensures.small;
       end_is = c.end_value-end.ensures;
     } in
-    step.spent_at c.args.job.now c.args.piece start given c.loop-piece.next c.loop-piece.nodes c.len-number.result c.count_values_at.result c.end_value-end.result now c.args.budget c.if-next-end.true c.if-nodes-budget.true (c.enters.ensures.consistent c.if-enters.true)
+    step.spent_at c.args.job.now c.args.piece start given c.loop-piece.next c.loop-piece.nodes c.len-number.result c.count_values_at.result c.end_value-end.result now c.args.budget c.if-next-end.true c.if-nodes-budget.true (c.in_ok-enters.ensures.consistent c.if-enters.true)
 
 pub overflow_add-nodes : goal.overflow_add-nodes
 overflow_add-nodes c =
@@ -43,7 +40,7 @@ loop-piece-smaller-then-enters c =
       small = c.count_values_at.ensures.small;
       end_is = c.end_value-end.ensures;
     } in
-    step.less_entered c.args.job.now c.args.piece start given c.loop-piece.next c.loop-piece.nodes c.len-number.result c.count_values_at.result c.end_value-end.result now c.enters.new.given c.if-next-end.true (c.enters.ensures.entered c.if-enters.true)
+    step.less_entered c.args.job.now c.args.piece start given c.loop-piece.next c.loop-piece.nodes c.len-number.result c.count_values_at.result c.end_value-end.result now c.enters.new.given c.if-next-end.true (c.in_ok-enters.ensures.entered c.if-enters.true)
 
 pub loop-piece-preserved-then-enters : goal.loop-piece-preserved-then-enters
 loop-piece-preserved-then-enters c =
@@ -59,10 +56,10 @@ loop-piece-preserved-then-enters c =
       small = c.count_values_at.ensures.small;
       end_is = c.end_value-end.ensures;
     } in
-    let both = step.entered_at c.args.job.now c.args.piece start given c.loop-piece.next c.loop-piece.nodes c.len-number.result c.count_values_at.result c.end_value-end.result now c.enters.new.given c.if-next-end.true (c.enters.ensures.entered c.if-enters.true) (c.enters.ensures.consistent c.if-enters.true) in
+    let both = step.entered_at c.args.job.now c.args.piece start given c.loop-piece.next c.loop-piece.nodes c.len-number.result c.count_values_at.result c.end_value-end.result now c.enters.new.given c.if-next-end.true (c.in_ok-enters.ensures.entered c.if-enters.true) (c.in_ok-enters.ensures.consistent c.if-enters.true) in
     let most = c.loop-piece.invariant.within in
     let other = c.if-nodes-budget.false in
-    record { cells = both.0; within = omega (arith, most, other); searching = both.1 }
+    record { cells = both.0; within = omega (arith, most, other); searching = both.1; watching = c.in_ok-enters.ensures.watched }
 
 pub loop-piece-smaller-else-enters : goal.loop-piece-smaller-else-enters
 loop-piece-smaller-else-enters c =
@@ -78,7 +75,7 @@ loop-piece-smaller-else-enters c =
       small = c.count_values_at.ensures.small;
       end_is = c.end_value-end.ensures;
     } in
-    step.less_refused c.args.job.now c.args.piece start given c.loop-piece.next c.loop-piece.nodes c.len-number.result c.count_values_at.result c.end_value-end.result now c.enters.new.given c.if-next-end.true (c.enters.ensures.kept c.if-enters.false)
+    step.less_refused c.args.job.now c.args.piece start given c.loop-piece.next c.loop-piece.nodes c.len-number.result c.count_values_at.result c.end_value-end.result now c.enters.new.given c.if-next-end.true (c.in_ok-enters.ensures.kept c.if-enters.false)
 
 pub loop-piece-preserved-else-enters : goal.loop-piece-preserved-else-enters
 loop-piece-preserved-else-enters c =
@@ -94,8 +91,8 @@ loop-piece-preserved-else-enters c =
       small = c.count_values_at.ensures.small;
       end_is = c.end_value-end.ensures;
     } in
-    let both = step.refused_at c.args.job.now c.args.piece start given c.loop-piece.next c.loop-piece.nodes c.len-number.result c.count_values_at.result c.end_value-end.result now c.enters.new.given c.if-next-end.true (c.enters.ensures.kept c.if-enters.false) (c.enters.ensures.refused c.if-enters.false) in
-    record { cells = both.0; within = c.loop-piece.invariant.within; searching = both.1 }
+    let both = step.refused_at c.args.job.now c.args.piece start given c.loop-piece.next c.loop-piece.nodes c.len-number.result c.count_values_at.result c.end_value-end.result now c.enters.new.given c.if-next-end.true (c.in_ok-enters.ensures.kept c.if-enters.false) (c.in_ok-enters.ensures.refused c.if-enters.false) in
+    record { cells = both.0; within = c.loop-piece.invariant.within; searching = both.1; watching = c.in_ok-enters.ensures.watched }
 
 pub returns-then-number-eq0 : goal.returns-then-number-eq0
 returns-then-number-eq0 c =
@@ -127,7 +124,7 @@ overflow_add-next-else-next-end c =
       small = c.count_values_at.ensures.small;
       end_is = c.end_value-end.ensures;
     } in
-    let small = step.top_small c.args.job.now c.args.piece start given c.loop-piece.next c.loop-piece.nodes c.len-number.result c.count_values_at.result c.end_value-end.result now c.pop-next.new.self c.pop-next.result c.pop-next.ensures in
+    let small = step.top_small c.args.job.now c.args.piece start given c.loop-piece.next c.loop-piece.nodes c.len-number.result c.count_values_at.result c.end_value-end.result now c.take_back-next.new.given c.take_back-next.result c.take_back-next.ensures.value in
     omega (arith, small)
 
 pub loop-piece-smaller : goal.loop-piece-smaller
@@ -144,7 +141,7 @@ loop-piece-smaller c =
       small = c.count_values_at.ensures.small;
       end_is = c.end_value-end.ensures;
     } in
-    step.less_back c.args.job.now c.args.piece start given c.loop-piece.next c.loop-piece.nodes c.len-number.result c.count_values_at.result c.end_value-end.result now c.pop-next.new.self c.pop-next.result c.pop-next.ensures
+    step.less_back c.args.job.now c.args.piece start given c.loop-piece.next c.loop-piece.nodes c.len-number.result c.count_values_at.result c.end_value-end.result now c.take_back-next.new.given c.take_back-next.result c.take_back-next.ensures.value
 
 pub loop-piece-preserved : goal.loop-piece-preserved
 loop-piece-preserved c =
@@ -160,8 +157,8 @@ loop-piece-preserved c =
       small = c.count_values_at.ensures.small;
       end_is = c.end_value-end.ensures;
     } in
-    let both = step.back_at c.args.job.now c.args.piece start given c.loop-piece.next c.loop-piece.nodes c.len-number.result c.count_values_at.result c.end_value-end.result now c.pop-next.new.self c.pop-next.result c.if-next-end.false c.pop-next.ensures in
-    record { cells = both.0; within = c.loop-piece.invariant.within; searching = both.1 }
+    let both = step.back_at c.args.job.now c.args.piece start given c.loop-piece.next c.loop-piece.nodes c.len-number.result c.count_values_at.result c.end_value-end.result now c.take_back-next.new.given c.take_back-next.result c.if-next-end.false c.take_back-next.ensures.value in
+    record { cells = both.0; within = c.loop-piece.invariant.within; searching = both.1; watching = watching_back c.args.job.now c.take_back-next.new.given given c.take_back-next.result c.loop-piece.watches c.take_back-next.new.watches c.take_back-next.ensures.value c.loop-piece.invariant.watching c.take_back-next.ensures.watches }
 
 pub returns : goal.returns
 returns c =

@@ -1,4 +1,5 @@
 use Rattle.std.proofs.Common.{◌≡◌, ◌≤◌, length}
+use Rattle.sc_find.specs.Watching.{IsWatching}
 use Rattle.sc_find.proofs.LeftLaws.{left_to_try}
 use Rattle.sc_find.proofs.SearchingLaws.{IsSearching}
 use Rattle.sc_find.proofs.search.search.Given as goal
@@ -8,6 +9,7 @@ invariant-loop-piece l = record {
   cells : l.given.cells ≡ l.fn.given.cells;
   within : l.nodes ≤ l.budget;
   searching : IsSearching l.job l.piece l.fn.given.cells l.given.values l.next l.nodes;
+  watching : IsWatching l.job l.given l.watches;
 }
 
 abbrev pub decreases-loop-piece : goal.decreases-loop-piece
