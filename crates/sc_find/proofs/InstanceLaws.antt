@@ -26,9 +26,12 @@ pub waits_instance : (clauses : List Clause) (p : Prefix) (i : GroundInstance) (
 waits_instance clauses p i c values None at same h =
     some_and (λ c. All (IsFalseBy p (slice_index i.values)) c.literals) (slice_get clauses i.place) c at
     (subst (λ vs. All (IsFalseBy p (slice_index vs)) c.literals) same h)
-waits_instance clauses p i c values (Some cell) at same h = (h.0, λ more within most f. h.1 more within most
-    (subst (λ vs. All (IsFalseBy (record { cells = p.cells; values = p.values ++ more }) (slice_index vs)) c.literals) (sym same)
-    (and_some (λ c. All (IsFalseBy (record { cells = p.cells; values = p.values ++ more }) (slice_index i.values)) c.literals) (slice_get clauses i.place) c at f)))
+waits_instance clauses p i c values (Some cell) at same h = (
+  h.0,
+  λ more within most f. h.1 more within most
+      (subst (λ vs. All (IsFalseBy (record { cells = p.cells; values = p.values ++ more }) (slice_index vs)) c.literals) (sym same)
+      (and_some (λ c. All (IsFalseBy (record { cells = p.cells; values = p.values ++ more }) (slice_index i.values)) c.literals) (slice_get clauses i.place) c at f)),
+)
 
 -- ---- consistency
 

@@ -217,17 +217,17 @@ module _ (clauses : List Clause) (instances : List GroundInstance) where
       let was = h.each values [] (sym (append-nil values)) n lt in
       elim (cases_lt (length values) was.cell) [
         | inl later ↦ record {
-            cell = was.cell;
-            later = omega (arith, later, length_push values v);
-            stays = λ i at more within most f.
-                let joined : values ++ v ∷ [] ++ more ≡ values ++ (v ∷ more) = append_assoc values (v ∷ []) more in
-                was.stays i at (v ∷ more) (subst (λ vs. length vs ≤ length cells) joined within) (subst (λ vs. length vs ≤ was.cell) joined most)
-                (subst (λ vs. IsFalseInstance clauses (record { cells = cells; values = vs }) i) joined f);
-            there = elim was.there [
-              | inl past ↦ inl past
-              | inr at ↦ inr (at.0, Contains-append_left start added at.0 at.1, at.2, at.3, omega (arith, at.4, length_push values v))
-            ];
-          }
+          cell = was.cell;
+          later = omega (arith, later, length_push values v);
+          stays = λ i at more within most f.
+              let joined : values ++ v ∷ [] ++ more ≡ values ++ (v ∷ more) = append_assoc values (v ∷ []) more in
+              was.stays i at (v ∷ more) (subst (λ vs. length vs ≤ length cells) joined within) (subst (λ vs. length vs ≤ was.cell) joined most)
+              (subst (λ vs. IsFalseInstance clauses (record { cells = cells; values = vs }) i) joined f);
+          there = elim was.there [
+            | inl past ↦ inl past
+            | inr at ↦ inr (at.0, Contains-append_left start added at.0 at.1, at.2, at.3, omega (arith, at.4, length_push values v))
+          ];
+        }
         | inr here ↦
             let cell_is : was.cell ≡ length values = omega (arith, here, was.later) in
             elim was.there [

@@ -63,13 +63,7 @@ fn given_at(given: &[u8], number: usize) -> Result<u8, usize>
 }
 
 /// The value of a symbol's entry with so many arguments at a place.
-fn found(
-    rows: &[Row],
-    given: &[u8],
-    sym: SymId,
-    count: usize,
-    place: usize,
-) -> Result<u8, usize>
+fn found(rows: &[Row], given: &[u8], sym: SymId, count: usize, place: usize) -> Result<u8, usize>
     ensures { (p : AList ℕ → AnOption ℕ) → ((more : AList ℕ) → Some place ≡ option_map (λ n. min n usize.MAX) (p (given.now ++ more)))
         → Sees (λ g. value_at g (number_in (numbered rows.now sym.0) count (p g))) given.now result }
 {
@@ -81,13 +75,7 @@ fn found(
 
 /// The value of the term where variable n has element n of `values` and the first cells have those of `given`.
 #[cycle(evaluate)]
-pub fn value(
-    size: u8,
-    rows: &[Row],
-    given: &[u8],
-    values: &[u8],
-    term: &Term,
-) -> Result<u8, usize>
+pub fn value(size: u8, rows: &[Row], given: &[u8], values: &[u8], term: &Term) -> Result<u8, usize>
     ensures { Sees (λ g. found_term (look_up size rows.now g) (slice_index values.now) term.now) given.now result }
 {
     match term {
@@ -102,13 +90,7 @@ pub fn value(
 /// The place of the entry of these arguments, where all are found and are elements; the greatest number where the place
 /// is greater.
 #[cycle(evaluate)]
-fn place(
-    size: u8,
-    rows: &[Row],
-    given: &[u8],
-    values: &[u8],
-    args: &[Term],
-) -> Result<usize, usize>
+fn place(size: u8, rows: &[Row], given: &[u8], values: &[u8], args: &[Term]) -> Result<usize, usize>
     ensures { Sees (λ g. option_map (λ n. min n usize.MAX) (place_in size (found_terms (look_up size rows.now g) (slice_index values.now) args.now))) given.now result }
 {
     let mut at: usize = 0;

@@ -18,7 +18,7 @@ watch-requires-clause-number c =
 pub returns-then-not-branch-clause-all : goal.returns-then-not-branch-clause-all
 returns-then-not-branch-clause-all c =
     let lt = in_place (length c.args.instances.now) (c.loop-at.at - 1) c.loop-at.watches.watches c.get-watched.result
-        (grown_places (length c.args.instances.now) c.args.watches.now c.loop-at.watches c.loop-at.invariant.grown c.requires.last.3.places) c.get-watched.ensures.value in
+    (grown_places (length c.args.instances.now) c.args.watches.now c.loop-at.watches c.loop-at.invariant.grown c.requires.last.3.places) c.get-watched.ensures.value in
     one_false c.args.clauses.now c.args.instances.now c.args.given.now c.watch.new.watches.watches c.get-watched.result.instance c.in_ok-watch.field-0 lt c.in_ok-watch.ensures.goes c.if-not-branch.true
 
 pub loop-at-preserved : goal.loop-at-preserved

@@ -38,9 +38,11 @@ place-returns-then-element-size t c =
     = slice_get_read c.args.args.now (length c.args.args.now) c.loop-arg.arg-index c.arg-item.result refl within c.arg-item.is in
     let beyond : c.args.size ≤ c.in-Ok.element = omega arith in
     let found = sees_found (λ g. found_term (look g) a c.arg-item.result) given c.value.result c.in-Ok.element c.value.ensures c.in-Ok.is in
-    let many : length given ≤ 2 ^ 64 - 1 = omega (arith, c.type_inv.given) in
-    (many, λ more most. ap (option_map (λ n. min n (2 ^ 64 - 1)))
-    (terms_beyond (look (given ++ more)) a c.args.size c.args.args.now c.loop-arg.arg-index c.in-Ok.element c.arg-item.result here (found more) beyond))
+    let many : length given ≤ 2 ^ 64 - 1 = omega (arith, c.type_inv.given) in (
+      many,
+      λ more most. ap (option_map (λ n. min n (2 ^ 64 - 1)))
+          (terms_beyond (look (given ++ more)) a c.args.size c.args.args.now c.loop-arg.arg-index c.in-Ok.element c.arg-item.result here (found more) beyond),
+    )
 
 pub place-loop-arg-preserved : goal.place-loop-arg-preserved
 place-loop-arg-preserved t c =

@@ -11,9 +11,11 @@ returns-in-Some c =
     let P : List ℕ → Literal → Type 0 = λ g. IsFoundFalse (look_up c.args.size c.args.rows.now g) (slice_index c.args.values.now) in
     let given : List ℕ = c.args.given.now in
     let items = c.as_slice-literal-items.result.now in
-    let within : c.loop-literal.literal-index < length items = omega arith in
-    (c.in-Some.ensures.0, λ more most all. c.in-Some.ensures.1 more most
-    (subst (P (given ++ more)) (sym c.literal-item.is) ((subst (All (P (given ++ more))) (sym c.as_slice-literal-items.ensures) all) c.loop-literal.literal-index c.literal-item.result within)))
+    let within : c.loop-literal.literal-index < length items = omega arith in (
+      c.in-Some.ensures.0,
+      λ more most all. c.in-Some.ensures.1 more most
+          (subst (P (given ++ more)) (sym c.literal-item.is) ((subst (All (P (given ++ more))) (sym c.as_slice-literal-items.ensures) all) c.loop-literal.literal-index c.literal-item.result within)),
+    )
 
 pub loop-literal-preserved : goal.loop-literal-preserved
 loop-literal-preserved c =

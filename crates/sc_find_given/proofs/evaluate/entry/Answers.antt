@@ -16,7 +16,7 @@ returns-in-Ok-found c =
     let p : List ℕ → Option ℕ = λ g. place_in c.args.size (found_terms (look g) a c.args.args.now) in
     let here = sees_found (λ g. option_map (λ n. min n (2 ^ 64 - 1)) (p g)) given c.place.result c.in-Ok.place c.place.ensures c.in-Ok.is in
     let value = sees_found (λ g. value_at g (number_in (numbered c.args.rows.now c.args.pred.0) (length c.args.args.now) (p g))) given c.found.result c.in-Ok-found.entry
-        (c.found.ensures p (λ more. sym (here more))) c.in-Ok-found.is in
+    (c.found.ensures p (λ more. sym (here more))) c.in-Ok-found.is in
     λ more. sym (atom_is (look (given ++ more)) a c.args.pred (found_terms (look (given ++ more)) a c.args.args.now) (Some c.in-Ok-found.entry) c.requires
     (sym (value_found c.args.size c.args.rows.now (given ++ more) c.args.pred (length c.args.args.now) (found_terms (look (given ++ more)) a c.args.args.now) (terms_many (look (given ++ more)) a c.args.args.now)) ∙ value more))
 

@@ -65,9 +65,13 @@ wake-requires-clause-last c =
     let inv = c.self.invariant in
     let task : Task = record { sig = j.sig.now; clauses = j.clauses.now; size = j.size } in
     let before : Prefix = record { cells = c.args.given.now.cells; values = c.requires.last.0 } in
-    let was = subst (λ (t : Task). IsWatching t before c.args.watches.now) (sym c.self.view_is) c.requires.last.3 in
-    (c.requires.last.0, c.requires.last.1, c.requires.last.2, watched_same j.clauses.now c.as_slice.result.now j.ground c.as_slice-2.result.now before c.args.watches.now.watches
-    c.as_slice.ensures (c.as_slice-2.ensures ∙ c.instances.ensures) (of_instances task j.ground inv.not_empty inv.are_instances before c.args.watches.now was))
+    let was = subst (λ (t : Task). IsWatching t before c.args.watches.now) (sym c.self.view_is) c.requires.last.3 in (
+      c.requires.last.0,
+      c.requires.last.1,
+      c.requires.last.2,
+      watched_same j.clauses.now c.as_slice.result.now j.ground c.as_slice-2.result.now before c.args.watches.now.watches
+          c.as_slice.ensures (c.as_slice-2.ensures ∙ c.instances.ensures) (of_instances task j.ground inv.not_empty inv.are_instances before c.args.watches.now was),
+    )
 
 pub returns-clause-kept : goal.returns-clause-kept
 returns-clause-kept c =
