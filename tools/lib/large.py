@@ -213,5 +213,10 @@ LARGEST += [
 
 
 def read_alone(text):
-    """A problem that ends as soon as it is read and started: no clause is given."""
+    """A problem whose run ends as soon as it is read, by the empty clause at its head."""
+    return (sos(["$F"]) + text).encode()
+
+
+def started_alone(text):
+    """A problem whose run ends as soon as it is started: no clause is in the set of support."""
     return text.replace("list(sos)", "list(passive)").encode()
