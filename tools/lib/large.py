@@ -1,8 +1,9 @@
 """Large inputs: families that grow with a number, each up to what the language allows. Deep and heavy terms, many clauses,
 symbols, names and bytes, long proofs, and problems whose conclusions reach the limits on what is made.
 
-    FAMILIES["long names"](4)       a problem with four times the least of it, as bytes
-    LARGEST                         name, words and text of each input at the language's limits
+    make, least = FAMILIES["long names"]
+    make(4 * least)                 a text with four times the least of it
+    largest()                       name, words and text of each input at the language's limits, made one by one
 """
 
 MOST_BYTES = 4194304
@@ -190,26 +191,44 @@ def cells():
 
 PROVE = ["prove", "--finders", "0"]
 
-# name, words and text of inputs at the limits: of `check`, of reading, of what is made, and of models
-LARGEST = [("check " + name, ["check"], input_of_check(make(4 * least))) for name, (make, least) in FAMILIES.items()]
-LARGEST += [("prove " + name, ["prove", "--finders", "0", "--candidates", "2"], ("assign(max_given,1).\n" + make(4 * least)).encode()[:MOST_BYTES])
-            for name, (make, least) in FAMILIES.items() if make not in (proof, long_lines, heavy_lines, deep_lines)]
-LARGEST += [
-    ("prove deep conclusions", PROVE, growing("-p(x) | p(f(x))").encode()),
-    ("prove heavy conclusions", PROVE, growing("-p(x) | p(%s)" % full(1, "x")).encode()),
-    ("prove heavy pairs", PROVE, growing("-p(x) | p(f(x,x))").encode()),
-    ("prove rewriting of depth 255", PROVE, rewritten().encode()),
-    ("prove clauses of depth 256", PROVE, resolved_deep().encode()),
-    ("prove clauses of depth 256 beside eight finders", ["prove", "--finders", "8"], resolved_deep().encode()),
-    ("prove a linked unifier of 5,000 levels", PROVE, linked(20, 250).encode()),
-    ("model at the limit on cells", ["model", "--size", "8", "--nodes", "1000"], cells().encode()),
-    ("model at the limit on cells, eight workers", ["model", "--size", "8", "--nodes", "1000", "--workers", "8"], cells().encode()),
-    ("a ladder of 1,000 rungs", ["bench", "1000"], b""),
-    ("line feeds alone", ["prove"], b"\n" * MOST_BYTES),
-    ("a byte too many", ["check"], b"\n" * (MOST_BYTES + 1)),
-    ("opening brackets alone", ["check"], b"list(sos). " + b"p(" * 2000000),
-    ("one clause of 4 MB", ["check"], b"list(sos). p" + b"|p" * 2000000),
-]
+ONE_TURN = "assign(max_given,1).\n"
+ONCE = ["prove", "--finders", "0", "--candidates", "2"]
+PROOFS = (proof, long_lines, heavy_lines, deep_lines)
+
+
+def families_at_most():
+    """Each family at four times its least number, to be checked, and as one turn of the prover."""
+    for name, (make, least) in FAMILIES.items():
+        text = make(4 * least)
+        yield "check " + name, ["check"], input_of_check(text)
+        if make not in PROOFS:
+            yield "prove " + name, ONCE, (ONE_TURN + text).encode()
+
+
+def single_inputs():
+    """Inputs of what is made, of models, and of bytes that are refused."""
+    return [
+        ("prove deep conclusions", PROVE, growing("-p(x) | p(f(x))").encode()),
+        ("prove heavy conclusions", PROVE, growing("-p(x) | p(%s)" % full(1, "x")).encode()),
+        ("prove heavy pairs", PROVE, growing("-p(x) | p(f(x,x))").encode()),
+        ("prove rewriting of depth 255", PROVE, rewritten().encode()),
+        ("prove clauses of depth 256", PROVE, resolved_deep().encode()),
+        ("prove clauses of depth 256 beside eight finders", ["prove", "--finders", "8"], resolved_deep().encode()),
+        ("prove a linked unifier of 5,000 levels", PROVE, linked(20, 250).encode()),
+        ("model at the limit on cells", ["model", "--size", "8", "--nodes", "1000"], cells().encode()),
+        ("model at the limit on cells, eight workers", ["model", "--size", "8", "--nodes", "1000", "--workers", "8"], cells().encode()),
+        ("a ladder of 1,000 rungs", ["bench", "1000"], b""),
+        ("line feeds alone", ["prove"], b"\n" * MOST_BYTES),
+        ("a byte too many", ["check"], b"\n" * (MOST_BYTES + 1)),
+        ("opening brackets alone", ["check"], b"list(sos). " + b"p(" * 2000000),
+        ("one clause of 4 MB", ["check"], b"list(sos). p" + b"|p" * 2000000),
+    ]
+
+
+def largest():
+    """Name, words and text of inputs at the limits."""
+    yield from families_at_most()
+    yield from single_inputs()
 
 
 def read_alone(text):
