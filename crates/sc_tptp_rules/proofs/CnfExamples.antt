@@ -1,10 +1,10 @@
 -- Texts of TPTP's clause form, by computation.
-use Rattle.std.proofs.Common.{◌≡◌, refl, ℕ, true, false, List, [], ◌∷◌, ◌++◌, Ok, Err, map}
+use Rattle.std.proofs.Common.{◌≡◌, refl, ℕ, List, [], ◌∷◌, Err}
 use Rattle.std.specs.Prelude.{codes}
 use Rattle.sc_input_rules.specs.declared.fault.InputKind.{InputKind}
 use Rattle.sc_input_rules.specs.declared.fault.InputKind.TheVariants.{NotText, Unexpected, Truncated, UnknownName, Unsupported, TooMany, TooHeavy, TooDeep}
 use Rattle.sc_input_rules.specs.declared.token.Token.TheVariants.{Word, Punctuation, Refused as Bad}
-use Rattle.sc_input_rules.specs.declared.token.Sign.TheVariants.{Open, Close, Comma, Stop, Minus, Equal, Unequal}
+use Rattle.sc_input_rules.specs.declared.token.Sign.TheVariants.{Open, Comma, Unequal}
 use Rattle.sc_input_rules.specs.ClauseLimits.{Bounds}
 use Rattle.sc_input_rules.specs.Faults.{place}
 use Rattle.sc_input_rules.specs.Reading.{problem_of}

@@ -1,6 +1,6 @@
 -- What the items of TPTP's clause form state: what these items of the problem language do.
 use Rattle.std.specs.Prelude.{ℕ, Bool, true, false, not, ◌&&◌, ◌||◌, List, [], ◌∷◌, ◌++◌, map, ◌==◌, nat_le, codes, if◌then◌else◌}
-use Rattle.std.specs.List.{list_any, list_all}
+use Rattle.std.specs.List.{list_any}
 use Rattle.sc_input_rules.specs.declared.written.Occurrence.{Occurrence}
 use Rattle.sc_input_rules.specs.declared.written.WrittenLiteral.{WrittenLiteral}
 use Rattle.sc_input_rules.specs.Tokens.{begins}

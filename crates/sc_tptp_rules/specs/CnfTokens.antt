@@ -1,5 +1,5 @@
 -- From bytes of TPTP's clause form to tokens. `~` is the sign of negation, which the problem language writes `-`.
-use Rattle.std.specs.Prelude.{ℕ, ◌+◌, Bool, ◌&&◌, List, [], ◌∷◌, ◌==◌, if◌then◌else◌, codes}
+use Rattle.std.specs.Prelude.{ℕ, ◌+◌, ◌&&◌, List, [], ◌∷◌, ◌==◌, if◌then◌else◌, codes}
 use Rattle.sc_input_rules.specs.declared.fault.InputKind.TheVariants.{NotText, Truncated, Unsupported}
 use Rattle.sc_input_rules.specs.declared.token.Token.{Token}
 use Rattle.sc_input_rules.specs.declared.token.Token.TheVariants.{Word, Refused}
