@@ -56,7 +56,7 @@ pub still_few : (before after : Stated) (old new : Book) (left : ℕ) → length
     → length new.derived ≤ length old.derived + 2 → length after.inputs + length new.derived + 2 * (left - 1) + 2 < 2 ^ 32
 still_few before after old new left few some same two = let inputs : length after.inputs ≡ length before.inputs = ap (λ (p : Stated). length p.inputs) same in omega (arith, few, some, two, inputs)
 
-module _ {problem : Stated} {turn : ℕ} {given : Numbered} {usable : List Numbered} {most : ℕ} {start : Book} {all : List Item} {left : ℕ} {book : Book} {rest : List Item}
+module _ {problem : Stated} {turn : ℕ} {given : Numbered} {usable : List Numbered} {passed : Site → Type 0} {most : ℕ} {start : Book} {all : List Item} {left : ℕ} {book : Book} {rest : List Item}
     (going : Reaches problem turn given usable passed most start all left book rest) where
   abbrev Given : Book → Finish → Type 0
   Given new finish = Works problem turn given usable passed most start all new finish
