@@ -1,0 +1,3 @@
+pub mod ExchangeLaws
+pub mod PermutedLaws
+pub mod BoundLaws
