@@ -1,5 +1,5 @@
 -- The least-number bound: which elements the values of the first cells and the next cell use, and the bound of its value.
-use Rattle.std.specs.Prelude.{ℕ, ◌+◌, ◌-◌, List, [], ◌∷◌, ◌++◌, Option, Some, None, min, length, slice_get}
+use Rattle.std.specs.Prelude.{ℕ, ◌+◌, ◌-◌, List, [], ◌∷◌, ◌++◌, Option, Some, None, map, min, length, slice_get}
 use Rattle.sc_term.specs.Term.{largest}
 use Rattle.sc_term.specs.declared.symbol.Role.{Role}
 use Rattle.sc_term.specs.declared.symbol.Role.TheVariants.{Function, Predicate}
@@ -25,6 +25,10 @@ abbrev pub used : List Symbol → List Entry → List ℕ → List ℕ
 used sig [] values = []
 used sig (cell ∷ cells) [] = cell.indices
 used sig (cell ∷ cells) (v ∷ vs) = cell.indices ++ (used_by_value sig cell v ++ used sig cells vs)
+
+-- 1 more than the greatest element, 0 where there is none
+abbrev pub above : List ℕ → ℕ
+above elements = largest (map (λ e. e + 1) elements)
 
 -- ---- the bound
 

@@ -1,9 +1,9 @@
-//! The least-number bound.
+//! The least-number bound: how great a value a search for the first model has to try.
 #![tactic(auto)]
 
-ghost use Rattle.sc_least.specs.Full.{BeginsWithinBound, FirstIsWithinBound, NoneWithinBoundMeansNone};
+mod bound;
+mod laws;
+mod used;
 
-/// A law.
-pub fn begins_within_bound()
-    ensures { BeginsWithinBound }
-{}
+pub use bound::least_bound;
+pub use laws::{begins_within_bound, first_is_within_bound, none_within_bound_means_none};

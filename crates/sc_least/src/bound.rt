@@ -1,0 +1,25 @@
+//! The bound.
+
+ghost use Rattle.std.specs.Prelude.{◌≡◌, ◌<◌, ◌≤◌, List as AList, length, map};
+ghost use Rattle.sc_cells.specs.Cells.{Entry, AreCells, cell_at};
+ghost use Rattle.sc_least.specs.Bound.{least_number};
+
+use crate::used::above_used;
+use sc_cells::Cell;
+use sc_term::{List, Role, Signature};
+
+/// How great a value is to be tried for the cell after those that have values.
+pub fn least_bound(sig: &Signature, prefix: &[u8], cells: &List<Cell>, size: u8) -> u8
+    requires not_empty { 1 ≤ size }
+    requires cells { (entries : AList Entry) × AreCells sig.now size entries × (cells.now ≡ map (cell_at size) entries) }
+    requires shorter { length prefix.now < length cells.now }
+    ensures { (entries : AList Entry) → AreCells sig.now size entries → cells.now ≡ map (cell_at size) entries
+        → result ≡ least_number sig.now size entries prefix.now }
+{
+    let cells = cells.as_slice();
+    let next = cells[prefix.len()];
+    match sig.symbol(next.sym).role {
+        Role::Predicate => 1,
+        Role::Function => above_used(sig, size, prefix, cells).min(u16::from(size - 1)) as u8,
+    }
+}
