@@ -12,7 +12,7 @@ use Rattle.sc_cells.specs.Cells.{Entry, IsCell, AreCells, cell_at}
 use Rattle.sc_interp.specs.Structure.{place_of}
 use Rattle.sc_cells.specs.Listing.{digits}
 use Rattle.sc_cells.proofs.DigitLaws.{digits_of_place}
-use Rattle.sc_least.specs.Bound.{used_by_value, used, above, first_unused}
+use Rattle.sc_least.specs.Bound.{used_by_value, used, above, first_unused, bound_as, bound_by, bound_of, least_number}
 use Rattle.sc_least.proofs.PermutedLaws.{none_is_not}
 
 -- ---- lists
@@ -132,3 +132,11 @@ symbols_there sig size entries cells h listed = subst (All (λ (cell : Cell). ce
     let is = h.only k d lt in
     let s = there (λ (s : Symbol). length (get_or entries k d).indices ≡ s.arity) (slice_get sig (get_or entries k d).symbol) is.1 in
     slice_get_within sig (get_or entries k d).symbol s.0 s.1))
+
+-- the bound by the symbol of the next cell
+pub bound_at : (sig : List Symbol) (size : ℕ) (entries : List Entry) (values : List ℕ) (cells : List Cell) (cell : Cell) (s : Symbol) → cells ≡ map (cell_at size) entries
+    → slice_get cells (length values) ≡ Some cell → slice_get sig cell.sym.0 ≡ Some s → least_number sig size entries values ≡ bound_as s.role size (used sig entries values)
+bound_at sig size entries values cells cell s listed at is =
+    let e = entry_there size entries (length values) cell (ap (λ cs. slice_get cs (length values)) (sym listed) ∙ at) in
+    ap (λ o. bound_of sig size o (used sig entries values)) e.1
+    ∙ ap (λ o. bound_by o size (used sig entries values)) (ap (λ (c : Cell). slice_get sig c.sym.0) (sym e.2) ∙ is)
