@@ -9,7 +9,6 @@ use Rattle.sc_term.specs.Term.{largest}
 use Rattle.sc_term.specs.declared.symbol.Symbol.{Symbol}
 use Rattle.sc_cells.specs.declared.cells.Cell.{Cell}
 use Rattle.sc_cells.specs.Cells.{Entry, IsCell, AreCells, cell_at}
-use Rattle.sc_interp.specs.Structure.{place_of}
 use Rattle.sc_cells.specs.Listing.{digits}
 use Rattle.sc_cells.proofs.DigitLaws.{digits_of_place}
 use Rattle.sc_least.specs.Bound.{used_by_value, used, above, first_unused, bound_as, bound_by, bound_of, least_number}

@@ -1,6 +1,6 @@
 -- A full list whose next value is greater than the bound: the two elements exchanged, it has the bound there, and the
 -- same values before.
-use Rattle.std.proofs.Common.{◌≡◌, ◌∙◌, sym, ap, subst, refl, ℕ, zero, suc, ◌+◌, ◌-◌, ◌<◌, ◌≤◌, ◌⊎◌, inl, inr, Bool, true, false, if◌then◌else◌, List, [], ◌∷◌, ◌++◌, length, map, max, min, fold, get_or, slice_get, Option, Some, None, arith}
+use Rattle.std.proofs.Common.{◌≡◌, ◌∙◌, sym, ap, subst, refl, ℕ, zero, suc, ◌+◌, ◌-◌, ◌<◌, inl, inr, Bool, true, false, if◌then◌else◌, List, [], ◌∷◌, ◌++◌, length, map, max, min, fold, get_or, slice_get, Option, Some, None, arith}
 use Rattle.std.specs.Prelude.{unwrap_or}
 use Rattle.std.specs.List.{All, AllZip, AllPairs, AllByRecursion}
 use Rattle.std.proofs.lemmas.Bool.{cases_order}
@@ -16,11 +16,11 @@ use Rattle.sc_term.proofs.SubstitutionLaws.{all_split}
 use Rattle.sc_input_rules.specs.WellFormed.{IsOver}
 use Rattle.sc_interp.specs.Structure.{values_below as entries_below}
 use Rattle.sc_cells.specs.Order.{IsBefore}
-use Rattle.sc_cells.specs.Cells.{Entry, AreCells, AreValues, cell_numbers, below_of, values_below, is_cell_of, given_among}
+use Rattle.sc_cells.specs.Cells.{Entry, AreCells, cell_numbers, below_of, values_below, is_cell_of, given_among}
 use Rattle.sc_least.specs.Bound.{used_as, used_by, used_by_value, used, first_unused, bound_as, bound_by, bound_of, least_number}
 use Rattle.sc_least.specs.Full.{IsFull, BeginsWithinBound, FirstIsWithinBound, NoneWithinBoundMeansNone}
 use Rattle.sc_least.proofs.ExchangeLaws.{exchanged, exchange_first, exchange_twice, exchange_below, exchange_less, exchange_all_less}
-use Rattle.sc_least.proofs.PermutedLaws.{none_is_not, cell_is, is_itself, moved_as, moved_by, permuted_value, permuted, permuted_values, permuted_consistent}
+use Rattle.sc_least.proofs.PermutedLaws.{none_is_not, cell_is, is_itself, moved_as, moved_by, permuted_values, permuted_consistent}
 
 -- ---- the value of a cell is found at its place
 

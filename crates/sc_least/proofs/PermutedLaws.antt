@@ -1,6 +1,6 @@
 -- Values for all cells, with the elements permuted: they are in range, and consistent where the values are.
 use Rattle.std.proofs.Common.{◌≡◌, ◌∙◌, sym, ap, subst, refl, ℕ, zero, suc, ◌<◌, ◌==◌, ◌||◌, Bool, true, false, true≢false, if◌then◌else◌, List, [], ◌∷◌, length, map, nat_eq, get_or, slice_get, Option, Some, None, IsSomeAnd, option_map, arith}
-use Rattle.std.specs.Prelude.{◌&&◌, unwrap_or, take}
+use Rattle.std.specs.Prelude.{◌&&◌, unwrap_or}
 use Rattle.std.specs.List.{All, AllZip, AllByRecursion, list_any, list_all}
 use Rattle.std.proofs.lemmas.Bool.{eqb-true, eqb-false, eq-eqb}
 use Rattle.std.proofs.lemmas.List.{length-map, take_all}

@@ -1,4 +1,4 @@
-//! The bound.
+//! The bound by a signature, its cells and the values so far.
 
 ghost use Rattle.std.specs.Prelude.{◌≡◌, ◌<◌, ◌≤◌, List as AList, length, map};
 ghost use Rattle.sc_cells.specs.Cells.{Entry, AreCells, cell_at};
@@ -8,7 +8,10 @@ use crate::used::above_used;
 use sc_cells::Cell;
 use sc_term::{List, Role, Signature};
 
-/// How great a value is to be tried for the cell after those that have values.
+/// The bound of the value of the cell that comes next after those that `prefix` gives values, one each (`least_number`):
+/// for a cell of a function 1 more than the greatest element that is used, 0 where none is, and at most `size - 1`; 1 for
+/// a cell of a predicate. `cells` are all cells of the signature at the size, in order, as `cells_of` gives them. Takes
+/// time in proportion to the values, and no memory.
 pub fn least_bound(sig: &Signature, prefix: &[u8], cells: &List<Cell>, size: u8) -> u8
     requires not_empty { 1 ≤ size }
     requires cells { (entries : AList Entry) × AreCells sig.now size entries × (cells.now ≡ map (cell_at size) entries) }

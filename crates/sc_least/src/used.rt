@@ -1,4 +1,5 @@
-//! 1 more than the greatest element that values use, 0 where they use none.
+//! 1 more than the greatest element of some elements, 0 where there are none: of digits, indices, values, and of all that
+//! the values so far and the next cell use.
 
 ghost use Rattle.std.specs.Prelude.{◌≡◌, ◌<◌, ◌≤◌, List as AList, All, length, map, max, slice_get};
 ghost use Rattle.sc_cells.specs.Cells.{Entry, IsCell, AreCells, cell_at};

@@ -7,5 +7,5 @@ abbrev pub invariant-loop-number : goal.invariant-loop-number
 invariant-loop-number l = record {
   within : l.number ≤ length l.prefix;
   so_far : (entries : List Entry) → AreCells l.sig l.size entries → l.cells ≡ map (cell_at l.size) entries
-    → max l.most (above (used l.sig (drop l.number entries) (drop l.number l.prefix))) ≡ above (used l.sig entries l.prefix);
+      → max l.most (above (used l.sig (drop l.number entries) (drop l.number l.prefix))) ≡ above (used l.sig entries l.prefix);
 }
