@@ -1,0 +1,4 @@
+pub mod ExchangeLaws
+pub mod PermutedLaws
+pub mod BoundLaws
+pub mod AboveLaws
