@@ -13,3 +13,4 @@ pub mod PieceLaws
 pub mod CellTables
 pub mod LinkLaws
 pub mod WatchLaws
+pub mod DecideLaws

@@ -4,3 +4,4 @@ pub mod Answers
 pub mod Search
 pub mod Linked
 pub mod Watching
+pub mod Pieces

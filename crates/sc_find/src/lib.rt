@@ -16,6 +16,7 @@ mod answer;
 mod checking;
 mod find;
 mod job;
+mod parallel;
 mod pieces;
 mod search;
 mod tables;
@@ -26,7 +27,5 @@ mod watches;
 pub use answer::{Found, FoundAll, JobError, Piece};
 pub use find::find_first;
 pub use job::Job;
+pub use parallel::find_parallel;
 pub use pieces::find_by_pieces;
-
-#[cfg(test)]
-mod tests;
