@@ -27,6 +27,3 @@ pub use answer::{Found, FoundAll, JobError, Piece};
 pub use find::find_first;
 pub use job::Job;
 pub use pieces::find_by_pieces;
-
-#[cfg(test)]
-mod tests;
