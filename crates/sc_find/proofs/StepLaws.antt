@@ -29,6 +29,11 @@ values_few sig size cell small = of (slice_get sig cell.symbol)
     of None = omega arith
     of (Some s) = by s.role
 
+-- the values to try of the next cell end there
+abbrev pub EndsAt : Task → Option ℕ → List Entry → List ℕ → ℕ → Type 0
+EndsAt task piece cells values end = (cell : Entry) → slice_get cells (length values) ≡ Some cell
+    → end ≡ end_of piece (length values) (values_below task.sig task.size cell) (least_number task.sig task.size cells values)
+
 -- before a step
 pub record IsAt (task : Task) (piece : Option ℕ) (start : List Entry) (given : Prefix) (next count number end : ℕ) : Type 0 where
   pub cells : given.cells ≡ start
@@ -38,8 +43,7 @@ pub record IsAt (task : Task) (piece : Option ℕ) (start : List Entry) (given :
   pub within : length given.values < length given.cells
   pub small : task.size ≤ 8
   pub over : All (IsOver task.sig) task.clauses
-  pub end_is : (cell : Entry) → slice_get start (length given.values) ≡ Some cell
-      → end ≡ end_of piece (length given.values) (values_below task.sig task.size cell) (least_number task.sig task.size start given.values)
+  pub end_is : EndsAt task piece start given.values end
 
 pub consistent_so_far : (task : Task) (piece : Option ℕ) (start : List Entry) (given : Prefix) (next count : ℕ) → given.cells ≡ start
     → IsSearching task piece start given.values next count → IsConsistent task.clauses task.size given

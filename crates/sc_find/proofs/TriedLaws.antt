@@ -1,5 +1,5 @@
 -- What a search that goes through lists in order has tried, read from its stack and the next value.
-use Rattle.std.proofs.Common.{◌≡◌, ◌∙◌, refl, ℕ, zero, suc, ◌+◌, ◌<◌, ◌≤◌, ◌⊎◌, inl, inr, List, [], ◌∷◌, ◌++◌, length, arith}
+use Rattle.std.proofs.Common.{◌≡◌, ◌∙◌, refl, ℕ, zero, suc, ◌+◌, ◌<◌, ◌⊎◌, inl, inr, List, [], ◌∷◌, ◌++◌, length, arith}
 use Rattle.sc_cells.specs.Order.{IsBefore}
 
 -- where the list leaves the stack it has a smaller value than the stack, or than the next one

@@ -1,5 +1,5 @@
 -- What a job keeps for its searches: cells and instances.
-use Rattle.std.specs.Prelude.{◌≡◌, ◌≤◌, ℕ, List, IsSomeAnd, All, map, slice_get, slice_index}
+use Rattle.std.specs.Prelude.{◌≡◌, ◌≤◌, List, IsSomeAnd, All, map, slice_get, slice_index}
 use Rattle.sc_term.specs.declared.Clause.{Clause}
 use Rattle.sc_input_rules.specs.WellFormed.{IsOver}
 use Rattle.sc_cells.specs.declared.cells.Cell.{Cell}

@@ -2,7 +2,7 @@
 use Rattle.std.specs.Prelude.{◌≡◌, ◌<◌, ◌≤◌, ◌⊎◌, ℕ, List, ◌++◌, Option, Some, None, Bool, true, false, All, Contains, length, slice_get}
 use Rattle.sc_term.specs.declared.Clause.{Clause}
 use Rattle.sc_cells.specs.declared.instances.GroundInstance.{GroundInstance}
-use Rattle.sc_cells.specs.Cells.{Prefix, IsConsistent}
+use Rattle.sc_cells.specs.Cells.{Prefix}
 use Rattle.sc_cells.specs.Ground.{AreInstances}
 use Rattle.sc_find.specs.declared.watch.Watch.{Watch}
 use Rattle.sc_find.specs.Linked.{Board}

@@ -147,6 +147,7 @@ impl Job<'_> {
         ensures over { All (IsOver self.now.sig) self.now.clauses }
         ensures small { self.now.size ≤ 8 }
     {
+        let _ = &self.sig;
     }
 
     /// The bound of the value of the cell behind those that have these values.

@@ -1,7 +1,8 @@
-use Rattle.std.proofs.Common.{arith}
+use Rattle.std.proofs.Common.{sym, subst, arith}
+use Rattle.sc_cells.specs.Cells.{Prefix}
 use Rattle.sc_find.proofs.StepLaws as step
 use Rattle.sc_find.proofs.WatchLaws.{watching_back}
-use Rattle.sc_find.proofs.StepLaws.{IsAt}
+use Rattle.sc_find.proofs.StepLaws.{IsAt, EndsAt}
 use Rattle.sc_find.proofs.search.search.Goals as goal
 
 pub returns-then-nodes-budget : goal.returns-then-nodes-budget
@@ -59,7 +60,7 @@ loop-piece-preserved-then-enters c =
     let both = step.entered_at c.args.job.now c.args.piece start given c.loop-piece.next c.loop-piece.nodes c.len-number.result c.loop-piece.end now c.enters.new.given c.if-next-end.true (c.in_ok-enters.ensures.entered c.if-enters.true) (c.in_ok-enters.ensures.consistent c.if-enters.true) in
     let most = c.loop-piece.invariant.within in
     let other = c.if-nodes-budget.false in
-    record { cells = both.0; within = omega (arith, most, other); searching = both.1; watching = c.in_ok-enters.ensures.watched }
+    record { cells = both.0; within = omega (arith, most, other); searching = both.1; ends = subst (λ cells. EndsAt c.args.job.now c.args.piece cells c.enters.new.given.values c.end_behind-end-then-enters.result) both.0 c.end_behind-end-then-enters.ensures; watching = c.in_ok-enters.ensures.watched }
 
 pub loop-piece-smaller-else-enters : goal.loop-piece-smaller-else-enters
 loop-piece-smaller-else-enters c =
@@ -92,7 +93,7 @@ loop-piece-preserved-else-enters c =
       end_is = c.loop-piece.invariant.ends;
     } in
     let both = step.refused_at c.args.job.now c.args.piece start given c.loop-piece.next c.loop-piece.nodes c.len-number.result c.loop-piece.end now c.enters.new.given c.if-next-end.true (c.in_ok-enters.ensures.kept c.if-enters.false) (c.in_ok-enters.ensures.refused c.if-enters.false) in
-    record { cells = both.0; within = c.loop-piece.invariant.within; searching = both.1; watching = c.in_ok-enters.ensures.watched }
+    record { cells = both.0; within = c.loop-piece.invariant.within; searching = both.1; ends = subst (λ (g : Prefix). EndsAt c.args.job.now c.args.piece start g.values c.loop-piece.end) (sym (c.in_ok-enters.ensures.kept c.if-enters.false)) c.loop-piece.invariant.ends; watching = c.in_ok-enters.ensures.watched }
 
 pub returns-then-number-eq0 : goal.returns-then-number-eq0
 returns-then-number-eq0 c =
@@ -158,7 +159,7 @@ loop-piece-preserved c =
       end_is = c.loop-piece.invariant.ends;
     } in
     let both = step.back_at c.args.job.now c.args.piece start given c.loop-piece.next c.loop-piece.nodes c.len-number.result c.loop-piece.end now c.take_back-next.new.given c.take_back-next.result c.if-next-end.false c.take_back-next.ensures.value in
-    record { cells = both.0; within = c.loop-piece.invariant.within; searching = both.1; watching = watching_back c.args.job.now c.take_back-next.new.given given c.take_back-next.result c.loop-piece.watches c.take_back-next.new.watches c.take_back-next.ensures.value c.loop-piece.invariant.watching c.take_back-next.ensures.watches }
+    record { cells = both.0; within = c.loop-piece.invariant.within; searching = both.1; ends = subst (λ cells. EndsAt c.args.job.now c.args.piece cells c.take_back-next.new.given.values c.end_behind-end-else-next-end.result) both.0 c.end_behind-end-else-next-end.ensures; watching = watching_back c.args.job.now c.take_back-next.new.given given c.take_back-next.result c.loop-piece.watches c.take_back-next.new.watches c.take_back-next.ensures.value c.loop-piece.invariant.watching c.take_back-next.ensures.watches }
 
 pub returns : goal.returns
 returns c =

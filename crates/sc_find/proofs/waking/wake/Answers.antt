@@ -1,7 +1,7 @@
-use Rattle.std.proofs.Common.{◌≡◌, ◌∙◌, sym, ap, subst, refl, ◌<◌, ◌≤◌, ◌+◌, ◌-◌, length, arith}
+use Rattle.std.proofs.Common.{ap, subst, ◌-◌, length, arith}
 use Rattle.std.proofs.lemmas.List.{length_push}
 use Rattle.sc_find.specs.Watching.{Goes}
-use Rattle.sc_find.proofs.WatchLaws.{grown_none, grown_more, grown_places, in_place, within_grown, one_false, wake_first, wake_step, wake_last}
+use Rattle.sc_find.proofs.WatchLaws.{grown_none, grown_more, grown_places, in_place, one_false, wake_first, wake_step, wake_last}
 use Rattle.sc_find.proofs.waking.wake.Goals as goal
 
 pub loop-at-init : goal.loop-at-init

@@ -1,6 +1,5 @@
-use Rattle.std.proofs.Common.{◌≡◌, ◌∙◌, sym, ap, subst, refl, ◌<◌, ◌≤◌, ◌+◌, [], length, arith}
-use Rattle.sc_find.specs.Linked.{Board}
-use Rattle.sc_find.proofs.WatchLaws.{grown_none, grown_more, each_further, one_false, all_first}
+use Rattle.std.proofs.Common.{length, arith}
+use Rattle.sc_find.proofs.WatchLaws.{grown_more, each_further, one_false, all_first}
 use Rattle.sc_find.proofs.waking.watch_all.Goals as goal
 
 pub returns-then-not-branch-clause-all : goal.returns-then-not-branch-clause-all
