@@ -1,5 +1,5 @@
 -- Instances that are false by the values so far, and cells that they wait for.
-use Rattle.std.proofs.Common.{◌≡◌, ◌∙◌, sym, ap, subst, refl, ℕ, zero, suc, ◌<◌, ◌≤◌, inl, inr, ◌↔◌, Bool, IsTrue, List, [], ◌∷◌, ◌++◌, length, slice_get, slice_index, get_or, Option, Some, None}
+use Rattle.std.proofs.Common.{◌≡◌, ◌∙◌, sym, ap, subst, refl, ℕ, ◌<◌, ◌≤◌, List, ◌++◌, length, slice_get, slice_index, get_or, Option, Some, None}
 use Rattle.std.specs.Option.{IsSomeAnd}
 use Rattle.std.specs.List.{All, Contains}
 use Rattle.std.proofs.lemmas.List.Elements.{All-contains}
@@ -7,7 +7,7 @@ use Rattle.std.proofs.lemmas.Option.{slice_get-get_or, slice_get_within, get_or_
 use Rattle.sc_term.specs.declared.Clause.{Clause}
 use Rattle.sc_term.specs.Clause.{width}
 use Rattle.sc_cells.specs.declared.instances.GroundInstance.{GroundInstance}
-use Rattle.sc_cells.specs.Cells.{Entry, Prefix, IsFalseBy, IsConsistent}
+use Rattle.sc_cells.specs.Cells.{Prefix, IsFalseBy, IsConsistent}
 use Rattle.sc_cells.specs.Ground.{AreInstances, IsInstance}
 use Rattle.sc_find_given.specs.Waiting.{IsWaiting}
 use Rattle.sc_find.specs.Prepared.{IsFalseInstance}

@@ -5,7 +5,7 @@ use Rattle.std.proofs.lemmas.List.{length_push}
 use Rattle.std.proofs.lemmas.List.Elements.{All-nil, All-push, All-weaker}
 use Rattle.std.proofs.lemmas.List.Quantifiers.{all_pairs_push}
 use Rattle.sc_cells.specs.Order.{IsBefore}
-use Rattle.sc_find.proofs.TriedLaws.{WasTried, before_trans, before_longer, before_tried, full_tried, tried_deeper, tried_further, tried_or_remains, tried_under, none_at_first}
+use Rattle.sc_find.proofs.TriedLaws.{WasTried, before_trans, before_longer, before_tried, full_tried, tried_deeper, tried_further, less_tried, tried_under, none_at_first, Extends}
 
 -- it holds, and the list is as long as is wanted
 abbrev pub IsFull : ℕ → (List ℕ → Type 0) → List ℕ → Type 0
@@ -105,20 +105,25 @@ refused n P shorter values next count s never = record {
   counted = s.counted;
 }
 
+-- where a full list goes on after the values, one goes on with a smaller value than the next one
+abbrev pub GoesOnBelow : ℕ → (List ℕ → Type 0) → List ℕ → ℕ → Type 0
+GoesOnBelow n P values next = (m : List ℕ) → IsFull n P m → Extends values m → (k : ℕ) × (more : List ℕ) × (k < next) × IsFull n P (values ++ k ∷ more)
+
+none_behind : (n : ℕ) (P : List ℕ → Type 0) (values : List ℕ) (next count : ℕ) → IsSearch n P values next count → GoesOnBelow n P values next
+    → (m : List ℕ) → IsFull n P m → ¬ Extends values m
+none_behind n P values next count s below m full behind =
+    let one = below m full behind in
+    s.none_tried (values ++ one.0 ∷ one.1) one.3 (less_tried values one.0 next one.1 one.2)
+
 pub undone : (n : ℕ) (P : List ℕ → Type 0) → ((xs ys : List ℕ) → P (xs ++ ys) → P xs) → (values : List ℕ) (v next count : ℕ)
     → IsSearch n P (values ++ v ∷ []) next count → length (values ++ v ∷ []) < n
-    → ((k : ℕ) → P ((values ++ v ∷ []) ++ k ∷ []) → k < next) → IsSearch n P values (v + 1) count
-undone n P shorter values v next count s few all = record {
+    → GoesOnBelow n P (values ++ v ∷ []) next → IsSearch n P values (v + 1) count
+undone n P shorter values v next count s few below = record {
   holds = shorter values (v ∷ []) s.holds;
   fits = omega (arith, length_push values v, few);
   none_tried = λ m full tried. elim (tried_further values m v tried) [
     | inl before ↦ s.none_tried m full (tried_under values m v next before)
-    | inr here ↦ elim (tried_or_remains (values ++ v ∷ []) m next (omega (arith, few, full.0)) here) [
-      | inl before ↦ s.none_tried m full before
-      | inr more ↦
-          let less : more.value < next = all more.value (shorter ((values ++ v ∷ []) ++ more.value ∷ []) more.extends.0 (subst P more.extends.1 full.1)) in
-          omega (arith, more.untried, less)
-    ]
+    | inr here ↦ none_behind n P (values ++ v ∷ []) next count s below m full here
   ];
   entered = s.entered;
   rising = s.rising;
@@ -140,11 +145,5 @@ found n P values next count s all =
       λ m full before. s.none_tried m full (full_tried values m next (full.0 ∙ sym long) before),
     )
 
-pub none : (n : ℕ) (P : List ℕ → Type 0) → ((xs ys : List ℕ) → P (xs ++ ys) → P xs) → (next count : ℕ)
-    → IsSearch n P [] next count → 0 < n → ((k : ℕ) → P (k ∷ []) → k < next) → (m : List ℕ) → ¬ IsFull n P m
-none n P shorter next count s some all m full = elim (tried_or_remains [] m next (omega (arith, some, full.0)) (m, refl)) [
-  | inl before ↦ s.none_tried m full before
-  | inr more ↦
-      let less : more.value < next = all more.value (shorter (more.value ∷ []) more.extends.0 (subst P more.extends.1 full.1)) in
-      omega (arith, more.untried, less)
-]
+pub none : (n : ℕ) (P : List ℕ → Type 0) (next count : ℕ) → IsSearch n P [] next count → GoesOnBelow n P [] next → (m : List ℕ) → ¬ IsFull n P m
+none n P next count s below m full = none_behind n P [] next count s below m full (m, refl)

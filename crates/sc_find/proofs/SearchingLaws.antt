@@ -1,10 +1,16 @@
 -- The steps of the search for a model.
-use Rattle.std.proofs.Common.{◌≡◌, ℕ, zero, suc, ◌+◌, ◌<◌, ◌≤◌, List, [], ◌∷◌, ◌++◌, length, slice_get, Option, Some, None, min, arith}
+use Rattle.std.proofs.Common.{◌≡◌, sym, subst, ℕ, zero, suc, ◌+◌, ◌<◌, ◌≤◌, ◌⊎◌, inl, inr, List, [], ◌∷◌, ◌++◌, length, slice_get, Option, Some, None, min, arith}
+use Rattle.std.specs.List.{All}
+use Rattle.std.proofs.lemmas.List.{length-append, append_assoc}
+use Rattle.sc_input_rules.specs.WellFormed.{IsOver}
 use Rattle.sc_cells.specs.Cells.{Entry, AreCells, IsConsistent, values_below}
 use Rattle.sc_cells.specs.Order.{IsBefore}
+use Rattle.sc_least.specs.Bound.{least_number}
+use Rattle.sc_least.specs.Full.{IsFull as IsWhole}
+use Rattle.sc_least.proofs.BoundLaws.{begins_within}
 use Rattle.sc_find.specs.Models.{Task, IsInPiece, IsOpenPrefix, IsModel, ExceedsBudget}
 use Rattle.sc_find.specs.Search.{first_of, end_of}
-use Rattle.sc_find.proofs.SearchLaws.{IsSearch}
+use Rattle.sc_find.proofs.SearchLaws.{IsSearch, GoesOnBelow}
 use Rattle.sc_find.proofs.SearchLaws as laws
 use Rattle.sc_find.proofs.OpenLaws.{IsAllowed, open_front, open_more, open_none, last_below, last_allowed}
 
@@ -14,21 +20,31 @@ IsLow None values next = Unit {0}
 IsLow (Some v) [] next = min v 8 ≤ next
 IsLow (Some v) (x ∷ xs) next = Unit {0}
 
-allowed : (piece : Option ℕ) (values : List ℕ) (next count : ℕ) → IsLow piece values next → count ≤ 8 → next < end_of piece (length values) count → IsAllowed piece values next
-allowed None [] next count low few lt = tt
-allowed None (x ∷ xs) next count low few lt = tt
-allowed (Some v) [] next count low few lt = omega (arith, low, lt)
-allowed (Some v) (x ∷ xs) next count low few lt = tt
+allowed : (piece : Option ℕ) (values : List ℕ) (next count bound : ℕ) → IsLow piece values next → count ≤ 8 → next < end_of piece (length values) count bound → IsAllowed piece values next
+allowed None [] next count bound low few lt = tt
+allowed None (x ∷ xs) next count bound low few lt = tt
+allowed (Some v) [] next count bound low few lt = omega (arith, low, lt)
+allowed (Some v) (x ∷ xs) next count bound low few lt = tt
 
-pub before_end : (piece : Option ℕ) (k next count : ℕ) → next < end_of piece k count → next < count
-before_end None k next count lt = lt
-before_end (Some v) zero next count lt = omega (arith, lt)
-before_end (Some v) (suc k) next count lt = lt
+pub before_end : (piece : Option ℕ) (k next count bound : ℕ) → next < end_of piece k count bound → next < count
+before_end None k next count bound lt = omega (arith, lt)
+before_end (Some v) zero next count bound lt = omega (arith, lt)
+before_end (Some v) (suc k) next count bound lt = omega (arith, lt)
 
-within_end : (piece : Option ℕ) (values : List ℕ) (k count : ℕ) → k < count → IsAllowed piece values k → k < end_of piece (length values) count
-within_end None values k count lt a = lt
-within_end (Some v) [] k count lt a = omega (arith, lt, a)
-within_end (Some v) (x ∷ xs) k count lt a = lt
+-- the next cell is that of the piece, whose value is tried
+abbrev IsFixed : Option ℕ → List ℕ → Type 0
+IsFixed piece values = (k count bound : ℕ) → k < count → IsAllowed piece values k → k < end_of piece (length values) count bound
+
+-- it is any other: values go as far as its bound, and the piece asks for nothing more
+abbrev IsBounded : Option ℕ → List ℕ → Type 0
+IsBounded piece values =
+    ((k count bound : ℕ) → k < count → k ≤ bound → k < end_of piece (length values) count bound)
+    × ((xs ys : List ℕ) → IsInPiece piece (values ++ xs) → IsInPiece piece (values ++ ys))
+
+fixed_or_bounded : (piece : Option ℕ) (values : List ℕ) → IsFixed piece values ⊎ IsBounded piece values
+fixed_or_bounded None values = inr (λ k count bound lt le. omega (arith, lt, le), λ xs ys h. tt)
+fixed_or_bounded (Some v) [] = inl (λ k count bound lt a. omega (arith, lt, a))
+fixed_or_bounded (Some v) (x ∷ xs) = inr (λ k count bound lt le. omega (arith, lt, le), λ ys zs h. h)
 
 low_first : (piece : Option ℕ) → IsLow piece [] (first_of piece)
 low_first None = tt
@@ -82,13 +98,13 @@ module _ (task : Task) (piece : Option ℕ) (cells : List Entry) where
     pub at : slice_get cells (length values) ≡ Some cell
     pub within : length values < length cells
     pub few : values_below task.sig task.size cell ≤ 8
-    pub below : next < end_of piece (length values) (values_below task.sig task.size cell)
+    pub below : next < end_of piece (length values) (values_below task.sig task.size cell) (least_number task.sig task.size cells values)
 
   opens : (values : List ℕ) (next count : ℕ) (cell : Entry) → IsNext values next count cell
       → IsConsistent task.clauses task.size (record { cells = cells; values = values ++ next ∷ [] }) → Open (values ++ next ∷ [])
   opens values next count cell h consistent =
-      open_more task piece cells values cell next h.searching.search.holds h.at h.within (before_end piece (length values) next (values_below task.sig task.size cell) h.below)
-      (allowed piece values next (values_below task.sig task.size cell) h.searching.low h.few h.below) consistent
+      open_more task piece cells values cell next h.searching.search.holds h.at h.within (before_end piece (length values) next (values_below task.sig task.size cell) (least_number task.sig task.size cells values) h.below)
+      (allowed piece values next (values_below task.sig task.size cell) (least_number task.sig task.size cells values) h.searching.low h.few h.below) consistent
 
   pub entered : (values : List ℕ) (next count : ℕ) (cell : Entry) → IsNext values next count cell
       → IsConsistent task.clauses task.size (record { cells = cells; values = values ++ next ∷ [] }) → IsSearching (values ++ next ∷ []) 0 (count + 1)
@@ -109,29 +125,62 @@ module _ (task : Task) (piece : Option ℕ) (cells : List Entry) where
   refused values next count cell h never = record {
     search = laws.refused (length cells) Open shorter values next count h.searching.search (λ o. never o.consistent);
     low = low_more piece values next h.searching.low;
-    most = omega (arith, before_end piece (length values) next (values_below task.sig task.size cell) h.below, h.few);
+    most = omega (arith, before_end piece (length values) next (values_below task.sig task.size cell) (least_number task.sig task.size cells values) h.below, h.few);
   }
 
-  -- every value of the next cell was tried
+  -- every value of the next cell was tried, up to its bound
   pub record IsTried (values : List ℕ) (next : ℕ) (cell : Entry) : Type 0 where
     pub at : slice_get cells (length values) ≡ Some cell
     pub within : length values < length cells
-    pub all : end_of piece (length values) (values_below task.sig task.size cell) ≤ next
+    pub all : end_of piece (length values) (values_below task.sig task.size cell) (least_number task.sig task.size cells values) ≤ next
 
-  all_tried : (values : List ℕ) (next : ℕ) (cell : Entry) → IsTried values next cell → (k : ℕ) → Open (values ++ k ∷ []) → k < next
-  all_tried values next cell h k o =
-      omega (arith, h.all, within_end piece values k (values_below task.sig task.size cell) (last_below task piece cells values cell k h.at o) (last_allowed task piece cells values k o))
+  as_full : (values : List ℕ) → IsModel task piece cells values → IsWhole task.sig task.clauses task.size cells values
+  as_full values m = record { many = m.0; in_range = m.1.in_range; consistent = m.1.consistent }
 
-  pub undone : (values : List ℕ) (v next count : ℕ) (cell : Entry) → v < 8 → IsSearching (values ++ v ∷ []) next count → IsTried (values ++ v ∷ []) next cell
-      → IsSearching values (v + 1) count
-  undone values v next count cell small s h = record {
-    search = laws.undone (length cells) Open shorter values v next count s.search h.within (all_tried (values ++ v ∷ []) next cell h);
+  as_model : (values : List ℕ) → IsInPiece piece values → IsWhole task.sig task.clauses task.size cells values → IsModel task piece cells values
+  as_model values in_piece h =
+      let many = h.many in
+      (many, record { no_longer = omega (arith, many); in_range = h.in_range; in_piece = in_piece; consistent = h.consistent })
+
+  -- the first value behind the front of a model
+  behind_front : (values : List ℕ) (k : ℕ) (more : List ℕ) → IsModel task piece cells (values ++ k ∷ more) → Open (values ++ k ∷ [])
+  behind_front values k more m = shorter (values ++ k ∷ []) more (subst (IsOpenPrefix task piece cells) (sym (append_assoc values (k ∷ []) more)) m.1)
+
+  pub goes_on_below : (values : List ℕ) (next : ℕ) (cell : Entry) → AreCells task.sig task.size cells → All (IsOver task.sig) task.clauses → IsTried values next cell
+      → GoesOnBelow (length cells) (IsOpenPrefix task piece cells) values next
+  goes_on_below values next cell are over h m full behind = by behind.0 (fixed_or_bounded piece values) (subst (IsModel task piece cells) behind.1 full)
+    where
+      by : (rest : List ℕ) → IsFixed piece values ⊎ IsBounded piece values → IsModel task piece cells (values ++ rest)
+          → (k : ℕ) × (more : List ℕ) × (k < next) × IsModel task piece cells (values ++ k ∷ more)
+      by [] which model =
+          let shorter_than = h.within in
+          let long = model.0 in
+          let joined = length-append values (let none : List ℕ = [] in none) in
+          absurd (omega (arith, shorter_than, long, joined))
+      by (k ∷ more) (inl fixed) model =
+          let front = behind_front values k more model in
+          let below = fixed k (values_below task.sig task.size cell) (least_number task.sig task.size cells values) (last_below task piece cells values cell k h.at front) (last_allowed task piece cells values k front) in
+          let all = h.all in
+          (k, more, omega (arith, below, all), model)
+      by (x ∷ rest) (inr bounded) model =
+          let one = begins_within task.sig task.clauses task.size cells values (x ∷ rest) are over h.within (as_full (values ++ x ∷ rest) model) in
+          let other = as_model (values ++ one.0 ∷ one.1) (bounded.1 (x ∷ rest) (one.0 ∷ one.1) model.1.in_piece) one.3 in
+          let front = behind_front values one.0 one.1 other in
+          let below = bounded.0 one.0 (values_below task.sig task.size cell) (least_number task.sig task.size cells values) (last_below task piece cells values cell one.0 h.at front) one.2 in
+          let all = h.all in
+          (one.0, one.1, omega (arith, below, all), other)
+
+  pub undone : (values : List ℕ) (v next count : ℕ) (cell : Entry) → v < 8 → AreCells task.sig task.size cells → All (IsOver task.sig) task.clauses
+      → IsSearching (values ++ v ∷ []) next count → IsTried (values ++ v ∷ []) next cell → IsSearching values (v + 1) count
+  undone values v next count cell small are over s h = record {
+    search = laws.undone (length cells) Open shorter values v next count s.search h.within (goes_on_below (values ++ v ∷ []) next cell are over h);
     low = low_back piece values v s.search.holds.in_piece;
     most = omega (arith, small);
   }
 
-  pub exhausted : (next count : ℕ) (cell : Entry) → IsSearching [] next count → IsTried [] next cell → (values : List ℕ) → ¬ IsModel task piece cells values
-  exhausted next count cell s h values m = laws.none (length cells) Open shorter next count s.search h.within (all_tried [] next cell h) values m
+  pub exhausted : (next count : ℕ) (cell : Entry) → AreCells task.sig task.size cells → All (IsOver task.sig) task.clauses
+      → IsSearching [] next count → IsTried [] next cell → (values : List ℕ) → ¬ IsModel task piece cells values
+  exhausted next count cell are over s h values m = laws.none (length cells) Open next count s.search (goes_on_below [] next cell are over h) values m
 
   pub full : (values : List ℕ) (next count : ℕ) → IsSearching values next count → length cells ≤ length values
       → IsModel task piece cells values × ((others : List ℕ) → IsModel task piece cells others → ¬ IsBefore others values)

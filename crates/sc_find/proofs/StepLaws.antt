@@ -1,12 +1,15 @@
 -- The steps of the search, from what its loop knows.
 use Rattle.std.proofs.Common.{◌≡◌, ◌∙◌, sym, ap, subst, refl, ℕ, ◌+◌, ◌<◌, ◌≤◌, List, [], ◌∷◌, ◌++◌, length, slice_get, get_or, Option, Some, None, arith}
+use Rattle.std.specs.List.{All}
 use Rattle.std.proofs.lemmas.List.{length_push}
 use Rattle.std.proofs.lemmas.Option.{slice_get-get_or}
 use Rattle.sc_term.specs.declared.symbol.Symbol.{Symbol}
 use Rattle.sc_term.specs.declared.symbol.Role.{Role}
 use Rattle.sc_term.specs.declared.symbol.Role.TheVariants.{Function, Predicate}
+use Rattle.sc_input_rules.specs.WellFormed.{IsOver}
 use Rattle.sc_interp.specs.Structure.{values_below as entries_below}
 use Rattle.sc_cells.specs.Cells.{Entry, Prefix, AreCells, IsConsistent, below_of, values_below}
+use Rattle.sc_least.specs.Bound.{least_number}
 use Rattle.sc_find.specs.Models.{Task, IsModel, ExceedsBudget}
 use Rattle.sc_find.specs.Search.{IsFirst, end_of}
 use Rattle.sc_find.proofs.LeftLaws.{left_to_try, deeper, further, back}
@@ -26,23 +29,28 @@ values_few sig size cell small = of (slice_get sig cell.symbol)
     of None = omega arith
     of (Some s) = by s.role
 
+-- the values to try of the next cell end there
+abbrev pub EndsAt : Task → Option ℕ → List Entry → List ℕ → ℕ → Type 0
+EndsAt task piece cells values end = (cell : Entry) → slice_get cells (length values) ≡ Some cell
+    → end ≡ end_of piece (length values) (values_below task.sig task.size cell) (least_number task.sig task.size cells values)
+
 -- before a step
-pub record IsAt (task : Task) (piece : Option ℕ) (start : List Entry) (given : Prefix) (next count number many end : ℕ) : Type 0 where
+pub record IsAt (task : Task) (piece : Option ℕ) (start : List Entry) (given : Prefix) (next count number end : ℕ) : Type 0 where
   pub cells : given.cells ≡ start
   pub searching : IsSearching task piece start given.values next count
   pub are : AreCells task.sig task.size start
   pub at_number : number ≡ length given.values
   pub within : length given.values < length given.cells
-  pub counted : (cells : List Entry) (cell : Entry) → AreCells task.sig task.size cells → slice_get cells number ≡ Some cell → many ≡ values_below task.sig task.size cell
   pub small : task.size ≤ 8
-  pub end_is : end ≡ end_of piece number many
+  pub over : All (IsOver task.sig) task.clauses
+  pub end_is : EndsAt task piece start given.values end
 
 pub consistent_so_far : (task : Task) (piece : Option ℕ) (start : List Entry) (given : Prefix) (next count : ℕ) → given.cells ≡ start
     → IsSearching task piece start given.values next count → IsConsistent task.clauses task.size given
 consistent_so_far task piece start given next count cells s =
     subst (λ cs. IsConsistent task.clauses task.size (record { cells = cs; values = given.values })) (sym cells) s.search.holds.consistent
 
-module _ (task : Task) (piece : Option ℕ) (start : List Entry) (given : Prefix) (next count number many end : ℕ) (now : IsAt task piece start given next count number many end) where
+module _ (task : Task) (piece : Option ℕ) (start : List Entry) (given : Prefix) (next count number end : ℕ) (now : IsAt task piece start given next count number end) where
   cell : Entry
   cell = get_or start (length given.values) no_entry
 
@@ -55,11 +63,8 @@ module _ (task : Task) (piece : Option ℕ) (start : List Entry) (given : Prefix
   abbrev Cell : Entry
   Cell = get_or start (length given.values) no_entry
 
-  many_is : many ≡ values_below task.sig task.size Cell
-  many_is = now.counted start Cell now.are (ap (slice_get start) now.at_number ∙ at_cell)
-
-  end_there : end ≡ end_of piece (length given.values) (values_below task.sig task.size Cell)
-  end_there = now.end_is ∙ (λ i. end_of piece (now.at_number i) (many_is i))
+  end_there : end ≡ end_of piece (length given.values) (values_below task.sig task.size Cell) (least_number task.sig task.size start given.values)
+  end_there = now.end_is Cell at_cell
 
   is_next : next < end → IsNext task piece start given.values next count Cell
   is_next lt = record {
@@ -75,7 +80,7 @@ module _ (task : Task) (piece : Option ℕ) (start : List Entry) (given : Prefix
 
   next_small : next < end → next < 8
   next_small lt =
-      let below = before_end piece (length given.values) next (values_below task.sig task.size Cell) (subst (λ e. next < e) end_there lt) in
+      let below = before_end piece (length given.values) next (values_below task.sig task.size Cell) (least_number task.sig task.size start given.values) (subst (λ e. next < e) end_there lt) in
       let few = values_few task.sig task.size Cell now.small in
       omega (arith, below, few)
 
@@ -116,7 +121,7 @@ module _ (task : Task) (piece : Option ℕ) (start : List Entry) (given : Prefix
   pub exhausted_at : end ≤ next → number ≡ 0 → (values : List ℕ) → ¬ IsModel task piece start values
   exhausted_at le is values m =
       let none : given.values ≡ [] = empty given.values (sym now.at_number ∙ is) in
-      exhausted task piece start next count Cell (subst (λ vs. IsSearching task piece start vs next count) none now.searching)
+      exhausted task piece start next count Cell now.are now.over (subst (λ vs. IsSearching task piece start vs next count) none now.searching)
       (subst (λ vs. IsTried task piece start vs next Cell) none (is_tried le)) values m
     where
       empty : (vs : List ℕ) → length vs ≡ 0 → vs ≡ []
@@ -138,7 +143,7 @@ module _ (task : Task) (piece : Option ℕ) (start : List Entry) (given : Prefix
       → (new.cells ≡ start) × IsSearching task piece start new.values (v + 1) count
   back_at new v le is = (
     sym (ap (λ (p : Prefix). p.cells) is) ∙ now.cells,
-    undone task piece start new.values v next count Cell (top_small new v is) (subst (λ vs. IsSearching task piece start vs next count) (values_were new v is) now.searching)
+    undone task piece start new.values v next count Cell (top_small new v is) now.are now.over (subst (λ vs. IsSearching task piece start vs next count) (values_were new v is) now.searching)
         (subst (λ vs. IsTried task piece start vs next Cell) (values_were new v is) (is_tried le)),
   )
 

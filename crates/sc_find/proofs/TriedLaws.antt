@@ -1,5 +1,5 @@
 -- What a search that goes through lists in order has tried, read from its stack and the next value.
-use Rattle.std.proofs.Common.{◌≡◌, ◌∙◌, refl, ℕ, zero, suc, ◌+◌, ◌<◌, ◌≤◌, ◌⊎◌, inl, inr, List, [], ◌∷◌, ◌++◌, length, arith}
+use Rattle.std.proofs.Common.{◌≡◌, ◌∙◌, refl, ℕ, zero, suc, ◌+◌, ◌<◌, ◌⊎◌, inl, inr, List, [], ◌∷◌, ◌++◌, length, arith}
 use Rattle.sc_cells.specs.Order.{IsBefore}
 
 -- where the list leaves the stack it has a smaller value than the stack, or than the next one
@@ -102,35 +102,10 @@ tried_further (v ∷ vs) (x ∷ xs) k h = elim h [
   ]
 ]
 
--- m has a value that was not tried after the front
-pub record Remains (front : List ℕ) (next : ℕ) (m : List ℕ) : Type 0 where
-  pub value : ℕ
-  pub untried : next ≤ value
-  pub extends : Extends (front ++ value ∷ []) m
-
-less_or_not : (x n : ℕ) → (x < n) ⊎ (n ≤ x)
-less_or_not x zero = inr (omega arith)
-less_or_not zero (suc n) = inl (omega arith)
-less_or_not (suc x) (suc n) = elim (less_or_not x n) [
-  | inl h ↦ inl (omega (arith, h))
-  | inr h ↦ inr (omega (arith, h))
-]
-
--- a list that goes on after the stack
-pub tried_or_remains : (vs m : List ℕ) (next : ℕ) → length vs < length m → Extends vs m → WasTried vs next m ⊎ Remains vs next m
-tried_or_remains [] [] next long ext = absurd (omega (arith, long))
-tried_or_remains [] (x ∷ xs) next long ext = elim (less_or_not x next) [
-  | inl less ↦ inl less
-  | inr more ↦ inr (record { value = x; untried = more; extends = (xs, refl) })
-]
-tried_or_remains (v ∷ vs) [] next long ext = absurd (omega (arith, long))
-tried_or_remains (v ∷ vs) (x ∷ xs) next long ext =
-    let head : x ≡ v = cc ext.1 in
-    let tail : xs ≡ vs ++ ext.0 = cc ext.1 in
-    elim (tried_or_remains vs xs next (omega (arith, long)) (ext.0, tail)) [
-      | inl tried ↦ inl (inr (head, tried))
-      | inr more ↦ inr (record { value = more.value; untried = more.untried; extends = further v x (vs ++ more.value ∷ []) xs head more.extends })
-    ]
+-- a list that goes on after the stack with a smaller value than the next one
+pub less_tried : (vs : List ℕ) (k next : ℕ) (more : List ℕ) → k < next → WasTried vs next (vs ++ k ∷ more)
+less_tried [] k next more less = less
+less_tried (v ∷ vs) k next more less = inr (refl, less_tried vs k next more less)
 
 -- what was tried before the value on top, was tried before with it
 pub tried_under : (vs m : List ℕ) (v next : ℕ) → WasTried vs v m → WasTried (vs ++ v ∷ []) next m

@@ -1,6 +1,7 @@
 -- What a job keeps for its searches: cells and instances.
 use Rattle.std.specs.Prelude.{◌≡◌, ◌≤◌, List, IsSomeAnd, All, map, slice_get, slice_index}
 use Rattle.sc_term.specs.declared.Clause.{Clause}
+use Rattle.sc_input_rules.specs.WellFormed.{IsOver}
 use Rattle.sc_cells.specs.declared.cells.Cell.{Cell}
 use Rattle.sc_cells.specs.declared.instances.GroundInstance.{GroundInstance}
 use Rattle.sc_cells.specs.Cells.{Entry, Prefix, AreCells, cell_at, cell_count, IsFalseBy}
@@ -18,4 +19,5 @@ pub record IsPrepared (task : Task) (cells : List Cell) (instances : List Ground
   pub entries : List Entry
   pub are_cells : AreCells task.sig task.size entries
   pub listed : cells ≡ map (cell_at task.size) entries
+  pub over : All (IsOver task.sig) task.clauses
   pub are_instances : AreInstances task.clauses task.size instances

@@ -11,11 +11,11 @@ abbrev pub first_of : Option ℕ → ℕ
 first_of None = 0
 first_of (Some v) = min v 8
 
--- where the values end of the cell of that number, which has so many
-abbrev pub end_of : Option ℕ → ℕ → ℕ → ℕ
-end_of None k count = count
-end_of (Some v) zero count = min count (v + 1)
-end_of (Some v) (suc k) count = count
+-- where the values to try end of the cell of that number, which has so many and that bound: the piece's value has none
+abbrev pub end_of : Option ℕ → ℕ → ℕ → ℕ → ℕ
+end_of None k count bound = min count (bound + 1)
+end_of (Some v) zero count bound = min count (v + 1)
+end_of (Some v) (suc k) count bound = min count (bound + 1)
 
 -- the values are those of the first model
 pub record IsFirst (task : Task) (piece : Option ℕ) (cells : List Entry) (p : Prefix) : Type 0 where

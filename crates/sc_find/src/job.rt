@@ -1,9 +1,11 @@
 //! A job: what is asked for, made ready for searches.
 
 ghost use Rattle.std.specs.Prelude.{◌≡◌, ◌<◌, ◌≤◌, ◌↔◌, ℕ, List as AList, Option as AnOption, All, [], ◌∷◌, ◌++◌, IfOk, IfErr, OnOk, IsTrue, Some, false, true, length, slice_get, map};
+ghost use Rattle.sc_input_rules.specs.WellFormed.{IsOver};
 ghost use Rattle.sc_cells.specs.Cells.{Entry, Prefix, AreCells, AreValues, IsConsistent, cell_at, below_of, cell_count, values_below};
 ghost use Rattle.sc_cells.specs.declared.cells.Cell.{Cell as ACell};
 ghost use Rattle.sc_cells.specs.Ground.{AreInstances, instance_count};
+ghost use Rattle.sc_least.specs.Bound.{least_number};
 ghost use Rattle.sc_find.specs.Answers.{IsCauseOfJob};
 ghost use Rattle.sc_find.specs.Models.{AreTablesWith, IsPiece};
 ghost use Rattle.sc_find.specs.Watching.{IsWatching};
@@ -15,6 +17,7 @@ use crate::watches::Watches;
 use sc_cells::{Cell, CellsError, Ground, GroundError, cells_of, ground};
 use sc_find_given::Given;
 use sc_interp::Tables;
+use sc_least::least_bound;
 use sc_term::{Clause, List, Mem, Role, Signature};
 use std::alloc::Global;
 use std::marker::Model;
@@ -97,7 +100,7 @@ fn count_values_of(sig: &Signature, size: u8, cells: &[Cell], number: usize) -> 
 }
 
 impl<'a> Job<'a> {
-    /// The job of a size of 1 to 8. `Cells` comes exactly where there are more than 4,096 cells, and otherwise
+    /// The job of a size of 1 to 8, of clauses over the signature. `Cells` comes exactly where there are more than 4,096 cells, and otherwise
     /// `Instances` exactly where there are more than 200,000 instances of the clauses; they tell how many.
     pub fn new(
         alloc: Global,
@@ -107,6 +110,7 @@ impl<'a> Job<'a> {
     ) -> Result<Job<'a>, JobError>
         requires not_empty { 1 ≤ size }
         requires small { size ≤ 8 }
+        requires over { All (IsOver sig.now) clauses.now }
         ensures value { IfOk result (λ job. job ≡ record { sig = sig.now; clauses = clauses.now; size = size }) }
         ensures within { OnOk result (cell_count sig.now size ≤ 4096) }
         ensures few { OnOk result (instance_count clauses.now size ≤ 200000) }
@@ -136,6 +140,22 @@ impl Job<'_> {
         } else {
             u32::from(self.count_values_at(0))
         }
+    }
+
+    /// Tells what a job keeps: clauses over the signature, and a size of at most 8.
+    pub(crate) fn keeps(&self)
+        ensures over { All (IsOver self.now.sig) self.now.clauses }
+        ensures small { self.now.size ≤ 8 }
+    {
+        let _ = &self.sig;
+    }
+
+    /// The bound of the value of the cell behind those that have these values.
+    pub(crate) fn bound_behind(&self, values: &[u8]) -> u8
+        requires { (cells : AList Entry) × AreCells self.now.sig self.now.size cells × (length values.now < length cells) }
+        ensures { (cells : AList Entry) → AreCells self.now.sig self.now.size cells → result ≡ least_number self.now.sig self.now.size cells values.now }
+    {
+        least_bound(self.sig, values, &self.cells, self.size)
     }
 
     /// How many values the cell of that number may have.

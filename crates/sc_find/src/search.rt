@@ -1,7 +1,8 @@
 //! The search, depth first, for the first model.
 
-ghost use Rattle.std.specs.Prelude.{◌≡◌, [], IfOk};
-ghost use Rattle.sc_cells.specs.Cells.{AreCells, IsConsistent};
+ghost use Rattle.std.specs.Prelude.{◌≡◌, ◌≤◌, [], Some, IfOk, length, slice_get};
+ghost use Rattle.sc_cells.specs.Cells.{Entry, AreCells, IsConsistent, values_below};
+ghost use Rattle.sc_least.specs.Bound.{least_number};
 ghost use Rattle.sc_find.specs.Search.{HasEnded, first_of, end_of};
 ghost use Rattle.sc_find.specs.Watching.{IsWatching};
 
@@ -29,18 +30,34 @@ fn first_value(piece: Option<u8>) -> u8
     }
 }
 
-/// The number after the last value to try for a cell that has so many.
-fn end_value(piece: Option<u8>, number: usize, count: u8) -> u8
-    ensures { result ≡ end_of piece number count }
+/// The number after the last value to try for a cell that has so many and that bound.
+fn end_value(piece: Option<u8>, number: usize, count: u8, bound: u8) -> u8
+    requires { count ≤ 8 }
+    ensures { result ≡ end_of piece number count bound }
 {
     match piece {
         Some(value) if number == 0 => count.min(value.saturating_add(1)),
-        _ => count,
+        _ => count.min(bound.saturating_add(1)),
     }
 }
 
+/// The number after the last value to try for the next cell, if there is one.
+fn end_behind(job: &Job, piece: Option<u8>, given: &Given) -> u8
+    requires { AreCells job.now.sig job.now.size given.now.cells }
+    ensures { (cell : Entry) → slice_get given.now.cells (length given.now.values) ≡ Some cell
+        → result ≡ end_of piece (length given.now.values) (values_below job.now.sig job.now.size cell) (least_number job.now.sig job.now.size given.now.cells given.now.values) }
+{
+    let number = given.len();
+    if number >= given.cell_len() {
+        return 0;
+    }
+    let count = job.count_values_at(number);
+    end_value(piece, number, count, job.bound_behind(given.values()))
+}
+
 /// Gives the cells the values of the first model in which cell 0 has the value of the piece, if one is asked for, or
-/// says that there is none or that the plain count of nodes exceeds the budget. It gives up before it enters more nodes
+/// says that there is none or that the plain count of nodes exceeds the budget. No value above its bound is tried, but for
+/// that of the piece: whatever model has one, another has a smaller one in its place (`BeginsWithinBound`). It gives up before it enters more nodes
 /// than the budget, which no clause says: a better search may go on.
 pub fn search(
     job: &Job,
@@ -55,11 +72,12 @@ pub fn search(
     requires watched { IsWatching job.now given.old watches.old }
     ensures { IfOk result (HasEnded job.now piece budget given.old.cells given.new) }
 {
+    job.keeps();
     let mut next = first_value(piece);
+    let mut end = end_behind(job, piece, given);
     let mut nodes: u64 = 0;
     while given.len() < given.cell_len() {
         let number = given.len();
-        let end = end_value(piece, number, job.count_values_at(number));
         if next < end {
             let enters = job.enters(given, watches, next)?;
             if enters {
@@ -68,6 +86,7 @@ pub fn search(
                 }
                 nodes += 1;
                 next = 0;
+                end = end_behind(job, piece, given);
             } else {
                 next += 1;
             }
@@ -76,6 +95,7 @@ pub fn search(
                 return Ok(SearchEnd::Exhausted);
             }
             next = take_back(given, watches) + 1;
+            end = end_behind(job, piece, given);
         }
     }
     Ok(SearchEnd::Full)

@@ -21,6 +21,3 @@ mod used;
 
 pub use bound::least_bound;
 pub use laws::{begins_within_bound, first_is_within_bound, none_within_bound_means_none};
-
-#[cfg(test)]
-mod tests;

@@ -44,6 +44,7 @@ fn modelled(alloc: Global, problem: &Problem, size: u8, nodes: u64) -> Mem<Model
     ensures modelled { IfOk result (IsModelled problem.now size nodes) }
     ensures within { IfOk result (IsWithin problem.now size) }
 {
+    problem.keeps();
     match Job::new(alloc, problem.sig(), problem.inputs(), size) {
         Ok(job) => search(alloc, problem, &job, size, nodes),
         Err(JobError::Cells { count }) => Ok(Modelled::TooManyCells { count }),

@@ -1,4 +1,4 @@
-use Rattle.std.proofs.Common.{◌∙◌, ap, subst, length}
+use Rattle.std.proofs.Common.{◌∙◌, ap, subst}
 use Rattle.sc_find.specs.Answers.{IsFound, value_in}
 use Rattle.sc_find.proofs.PieceLaws.{asked_is, none_at_all}
 use Rattle.sc_find.proofs.find.find_first.Goals as goal

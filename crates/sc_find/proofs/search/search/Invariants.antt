@@ -2,6 +2,7 @@ use Rattle.std.proofs.Common.{◌≡◌, ◌≤◌, length}
 use Rattle.sc_find.specs.Watching.{IsWatching}
 use Rattle.sc_find.proofs.LeftLaws.{left_to_try}
 use Rattle.sc_find.proofs.SearchingLaws.{IsSearching}
+use Rattle.sc_find.proofs.StepLaws.{EndsAt}
 use Rattle.sc_find.proofs.search.search.Given as goal
 
 abbrev pub invariant-loop-piece : goal.invariant-loop-piece
@@ -9,6 +10,7 @@ invariant-loop-piece l = record {
   cells : l.given.cells ≡ l.fn.given.cells;
   within : l.nodes ≤ l.budget;
   searching : IsSearching l.job l.piece l.fn.given.cells l.given.values l.next l.nodes;
+  ends : EndsAt l.job l.piece l.fn.given.cells l.given.values l.end;
   watching : IsWatching l.job l.given l.watches;
 }
 

@@ -1,4 +1,4 @@
-use Rattle.std.proofs.Common.{◌≡◌, ◌∙◌, sym, ap, subst, refl, ◌++◌, ◌∷◌, [], length, arith}
+use Rattle.std.proofs.Common.{sym, ap, subst, length, arith}
 use Rattle.std.proofs.lemmas.List.{length_push}
 use Rattle.sc_cells.specs.Cells.{Prefix, IsConsistent}
 use Rattle.sc_find.specs.Watching.{IsWatching}

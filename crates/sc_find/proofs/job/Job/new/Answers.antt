@@ -1,8 +1,4 @@
-use Rattle.std.proofs.Common.{◌≡◌, ◌∙◌, sym, subst, ◌<◌, length, map}
-use Rattle.std.specs.List.{All}
 use Rattle.std.proofs.lemmas.Result.{err_from_is_err_and}
-use Rattle.sc_cells.specs.declared.cells.Cell.{Cell}
-use Rattle.sc_cells.specs.Cells.{cell_at}
 use Rattle.sc_cells.specs.Ground.{instance_count}
 use Rattle.sc_find.proofs.job.Job.new.Goals as goal
 

@@ -1,14 +1,13 @@
-use Rattle.std.proofs.Common.{◌≡◌, ◌∙◌, sym, ap, subst, ℕ, ◌<◌, ◌≤◌, ◌++◌, ◌∷◌, [], Bool, true, false, List, length, arith}
+use Rattle.std.proofs.Common.{◌≡◌, ◌∙◌, sym, ap, subst, ◌<◌, ◌≤◌, true, false, List, length, arith}
 use Rattle.std.specs.List.{All}
-use Rattle.std.proofs.lemmas.List.{length_push}
 use Rattle.sc_term.specs.declared.Clause.{Clause}
 use Rattle.sc_cells.specs.declared.instances.GroundInstance.{GroundInstance}
-use Rattle.sc_cells.specs.Cells.{Entry, Prefix, IsConsistent}
+use Rattle.sc_cells.specs.Cells.{IsConsistent}
 use Rattle.sc_find.specs.Linked.{Board}
 use Rattle.sc_find.specs.Models.{Task}
-use Rattle.sc_find.specs.Watching.{AreWatched, IsWatching, IsGrown, AllGo}
+use Rattle.sc_find.specs.Watching.{IsWatching}
 use Rattle.sc_find.proofs.InstanceLaws.{places_there}
-use Rattle.sc_find.proofs.WatchLaws.{go_same, watched_same, of_instances, watching_grown, go_watching, go_consistent, go_refused}
+use Rattle.sc_find.proofs.WatchLaws.{go_same, go_watching, go_consistent, go_refused}
 use Rattle.sc_find.proofs.job.Job.watch.Goals as goal
 
 pub watch_all-requires-clause-places : goal.watch_all-requires-clause-places
