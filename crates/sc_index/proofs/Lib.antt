@@ -1,0 +1,6 @@
+pub mod FlatLaws
+pub mod NodeLaws
+pub mod MeetingLaws
+pub mod WalkingLaws
+pub mod EntryLaws
+pub mod RemovalLaws

@@ -1,0 +1,5 @@
+pub mod Flat
+pub mod Nodes
+pub mod Meeting
+pub mod Walking
+pub mod Entries
