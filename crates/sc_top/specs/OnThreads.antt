@@ -7,5 +7,5 @@ use Rattle.sc_top.specs.declared.threads.OnThreads.TheVariants.{Finders, Workers
 
 -- the command asks for finders beside the prover, or for workers, of which one would be the thread that asks
 abbrev pub AsksOnThreads : Command → OnThreads → Type 0
-AsksOnThreads command (Finders plan) = (command ≡ command.Prove plan) × (1 ≤ plan.finders)
-AsksOnThreads command (Workers size upto nodes count) = (command ≡ command.Model size upto nodes count) × (2 ≤ count)
+AsksOnThreads k (Finders plan) = (k ≡ command.Prove plan) × (1 ≤ plan.finders)
+AsksOnThreads k (Workers size upto nodes count) = (k ≡ command.Model size upto nodes count) × (2 ≤ count)
