@@ -159,7 +159,7 @@ kept_then Candidates Candidates n taken = refl
 kept_then Workers Workers n taken = refl
 kept_then name other n taken = refl
 
-pub kept_of_none : (row : Row) (kept : Option ℕ) (values : List (List ℕ)) → IsKept row kept values → kept ≡ None → values ≡ []
+kept_of_none : (row : Row) (kept : Option ℕ) (values : List (List ℕ)) → IsKept row kept values → kept ≡ None → values ≡ []
 kept_of_none row None [] h e = refl
 kept_of_none row None (value ∷ values) h e = absurd h
 kept_of_none row (Some n) values h e = absurd cc

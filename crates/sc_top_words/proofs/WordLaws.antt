@@ -1,5 +1,5 @@
 -- The words ask for one command at most, and what they don't ask for, by what was taken of them.
-use Rattle.std.proofs.Common.{◌≡◌, ◌≤◌, ◌∙◌, sym, ap, refl, subst, ℕ, List, [], ◌∷◌, arith}
+use Rattle.std.proofs.Common.{◌≡◌, ◌≤◌, ◌∙◌, sym, ap, refl, subst, ℕ, List, ◌∷◌, arith}
 use Rattle.std.specs.Prelude.{Option, Some, None, IfSome, String, codes}
 use Rattle.std.specs.declared.alloc.Global.{Global}
 use Rattle.std.specs.Str.Parse.{digits_value}
@@ -12,8 +12,8 @@ use Rattle.sc_top_words.specs.declared.taking.Taken.{Taken}
 use Rattle.sc_top_words.specs.Options.{Given, row_of, values_of, IsChoice, IsKept}
 use Rattle.sc_top_words.specs.Words.{word_of, AskForPlan, AskForModel, AskForRungs, AskFor, Asks, IsModelSearch}
 use Rattle.sc_top_words.specs.Taking.{kept_for, AreTaken, FitValues, AreFit, IsIn, AreInRange, chosen_for, AreInOrder}
-use Rattle.sc_top_words.specs.Reading.{IsAskedBy, model_of}
-use Rattle.sc_top_words.proofs.OptionLaws.{first_of, first_word, other_words, options_are_one, chosen_fits, none_fits, chosen_is_one, kept_of_none, kept_number, kept_fits, kept_is_one, is_given, chosen_in_range}
+use Rattle.sc_top_words.specs.Reading.{IsAskedBy}
+use Rattle.sc_top_words.proofs.OptionLaws.{first_of, first_word, other_words, options_are_one, chosen_fits, none_fits, chosen_is_one, kept_number, kept_fits, kept_is_one, is_given, chosen_in_range}
 
 -- ---- one command
 
@@ -115,23 +115,6 @@ candidates_given words taken n t e = not_model words (λ s u m w h. is_given wor
 
 chosen_taken : (name : OptionName) (words : List (List ℕ)) (taken : Taken) (t : AreTaken words taken) → IsChoice t.options name (chosen_for name taken)
 chosen_taken name words taken t = kept_number (row_of name) (kept_for name taken) (values_of name t.options) (t.kept name)
-
-none_taken : (name : OptionName) (words : List (List ℕ)) (taken : Taken) (t : AreTaken words taken) → kept_for name taken ≡ None → values_of name t.options ≡ []
-none_taken name words taken t e = kept_of_none (row_of name) (kept_for name taken) (values_of name t.options) (t.kept name) e
-
-pub model_asked : (words : List (List ℕ)) (taken : Taken) → AreTaken words taken → taken.finders ≡ None → taken.candidates ≡ None → AreInOrder taken
-    → IsAskedBy (codes "model") words (model_of taken)
-model_asked words taken t finders candidates order = (refl, record {
-  options = t.options;
-  spelled = t.spelled;
-  is_size = chosen_taken Size words taken t;
-  is_last = t.kept Upto;
-  not_below = order;
-  is_budget = chosen_taken Nodes words taken t;
-  are_workers = chosen_taken Workers words taken t;
-  no_finders = none_taken Finders words taken t finders;
-  no_candidates = none_taken Candidates words taken t candidates;
-})
 
 -- whatever search is asked for, its sizes are those that were taken
 order_asked : (words : List (List ℕ)) (taken : Taken) (s : ℕ) (u : Option ℕ) (n w : ℕ) → AreTaken words taken → AskForModel words s u n w → AreInOrder taken

@@ -20,9 +20,16 @@ pub enum Command {
     Prove(Plan),
     /// A model of this size is sought, or of the least size from it up to another, with this budget of nodes for each piece,
     /// by so many workers.
-    Model { size: u8, upto: Option<u8>, nodes: u64, workers: u32 },
+    Model {
+        size: u8,
+        upto: Option<u8>,
+        nodes: u64,
+        workers: u32,
+    },
     /// A proof of the ladder with so many rungs is sought.
-    Bench { rungs: u32 },
+    Bench {
+        rungs: u32,
+    },
 }
 
 fn is_word(word: &String, text: &str) -> bool
