@@ -74,13 +74,7 @@ fn modelled<W: Searchers>(
 
 /// What is told of what the searches at the sizes found.
 #[tactic(auto, using(crate::proofs::ModelAnswers::smallest_text, crate::proofs::ModelAnswers::smallest_none))]
-fn told_of(
-    alloc: Global,
-    problem: &Problem,
-    from: u8,
-    to: u8,
-    found: Smallest,
-) -> Mem<Modelled>
+fn told_of(alloc: Global, problem: &Problem, from: u8, to: u8, found: Smallest) -> Mem<Modelled>
     ensures { (nodes : ℕ) → IsSmallest (sought_of problem.now) from to nodes found → IfOk result (IsSmallestFound problem.now from to nodes) }
 {
     problem.keeps();
@@ -114,7 +108,15 @@ fn smallest<W: Searchers>(
     ensures { IfOk result (IsSmallestFound problem.now from to nodes) }
 {
     problem.keeps();
-    match find_smallest_by(searchers, alloc, problem.sig(), problem.inputs(), from, to, nodes) {
+    match find_smallest_by(
+        searchers,
+        alloc,
+        problem.sig(),
+        problem.inputs(),
+        from,
+        to,
+        nodes,
+    ) {
         Ok(found) => told_of(alloc, problem, from, to, found),
         Err(SmallestError::Cells { count }) => Ok(Modelled::TooManyCells { count }),
         Err(SmallestError::Instances { count }) => Ok(Modelled::TooManyInstances { count }),
