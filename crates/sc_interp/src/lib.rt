@@ -32,3 +32,6 @@ pub use plain::{Claim, Truth, VersionName};
 pub use table::Table;
 pub use tables::{Tables, TablesError};
 pub use version::{ClaimError, Version, same};
+
+#[cfg(test)]
+mod tests;
