@@ -73,34 +73,6 @@ region_word b next word =
     ∙ if_false (b == 39) spec.InQuotes _ (passes_unlike is_word_byte b 39 refl word)
     ∙ if_false (b == 47 && begins (λ c. c == 42) next) spec.AtOpening _ (no_opening b next (passes_unlike is_word_byte b 47 refl word))
 
--- a byte of its own, where it isn't an exclamation mark before an equals sign
-alone : (at b : ℕ) (next : List ℕ) (ts : List Token) → (b == 33 && begins (λ c. c == 61) next) ≡ false
-    → cond (b == 33) (with_exclamation at (begins (λ c. c == 61) next) ts) (single spec.cnf_sign_of at b ∷ ts) ≡ single spec.cnf_sign_of at b ∷ ts
-alone at b next ts lone =
-    elim (same_or_not b 33) [
-      | inl e ↦
-          subst (λ (n : ℕ). (n == 33 && begins (λ c. c == 61) next) ≡ false
-          → cond (n == 33) (with_exclamation at (begins (λ c. c == 61) next) ts) (single spec.cnf_sign_of at n ∷ ts) ≡ single spec.cnf_sign_of at n ∷ ts)
-          (sym e) (λ h. if_false (begins (λ c. c == 61) next) _ _ h) lone
-      | inr e ↦ if_false (b == 33) _ _ e
-    ]
-
-module _ (at b : ℕ) (next : List ℕ) (ts : List Token) (white : is_white b ≡ false) (percent : (b == 37) ≡ false) where
-  pub with_quote : b ≡ 39 → spec.with_byte_outside at b next ts ≡ Word at spec.quoted ∷ ts
-  with_quote quote =
-      if_false (is_white b) ts _ white ∙ if_false (b == 37) ts _ percent ∙ if_true (b == 39) (Word at spec.quoted ∷ ts) _ (ap (λ (n : ℕ). n == 39) quote)
-
-  pub with_opening : (b == 39) ≡ false → (b == 47 && begins (λ c. c == 42) next) ≡ true → spec.with_byte_outside at b next ts ≡ ts
-  with_opening quote opening =
-      if_false (is_white b) ts _ white ∙ if_false (b == 37) ts _ percent ∙ if_false (b == 39) (Word at spec.quoted ∷ ts) _ quote
-      ∙ if_true (b == 47 && begins (λ c. c == 42) next) ts _ opening
-
-  pub with_single : (b == 39) ≡ false → (b == 47 && begins (λ c. c == 42) next) ≡ false → is_word_byte b ≡ false
-      → (b == 33 && begins (λ c. c == 61) next) ≡ false → spec.with_byte_outside at b next ts ≡ single spec.cnf_sign_of at b ∷ ts
-  with_single quote opening word lone =
-      if_false (is_white b) ts _ white ∙ if_false (b == 37) ts _ percent ∙ if_false (b == 39) (Word at spec.quoted ∷ ts) _ quote
-      ∙ if_false (b == 47 && begins (λ c. c == 42) next) ts _ opening ∙ if_false (is_word_byte b) _ _ word ∙ alone at b next ts lone
-
 -- the longest run of bytes of words is one token
 word_run : (at b : ℕ) (bs rest : List ℕ) → list_all is_word_byte (b ∷ bs) ≡ true → begins is_word_byte rest ≡ false
     → spec.tokens_in spec.Outside at ((b ∷ bs) ++ rest) ≡ Word at (b ∷ bs) ∷ spec.tokens_in spec.Outside (at + length (b ∷ bs)) rest

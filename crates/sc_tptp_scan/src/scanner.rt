@@ -55,7 +55,7 @@ pub fn scan_cnf<'a>(alloc: Global, bytes: &'a [u8]) -> Mem<List<Token<'a>>>
     ensures { IfOk result (λ ts. ts ≡ cnf_tokens bytes.now) }
 {
     let total = bytes.len();
-    let (_, mut rest) = bytes.split_at(0);
+    let mut rest = bytes;
     let mut region = Region::Outside;
     let mut standing = start();
     // Room for a token a byte, which is about the most there can be: only what is filled takes up memory, and nothing is
