@@ -6,12 +6,13 @@ BEGINNINGS = [(words, text) for _, words, text in hostile.SMALL] + [(hostile.ALO
 TOKENS = [it.encode() for it in """list ( ) ( ) . , | - = != : % \n $F set clear assign usable sos passive demodulators
 end_of_list proof end_of_proof binary_res hyper_res para_from max_weight max_given pick_given_ratio input resolve instance merge flip
 para left right 0 1 2 3 10 9999999999 99999999999 p q f a b x y x0 x1 x65535 mark run end_of_run f(x) p(x). -p(f(x)). a=b.""".split()]
-WORDS = """check prove model bench --finders --size --nodes --candidates --workers --finders=0 --size=2 0 1 2 3 8 9 64 00000000001
+WORDS = """check prove model bench --finders --size --nodes --candidates --workers --upto --finders=0 --size=2 0 1 2 3 8 9 64 00000000001
 -1 two = --=1 --nodes=100 --candidates=3""".split()
 
 # words that end soon whatever they are given; a search takes as long as it takes
 COMMANDS = [["check"], hostile.PLAIN, ["prove", "--finders", "0", "--candidates", "3", "--nodes", "100"],
-            ["model", "--nodes", "100"], ["model", "--size", "3", "--nodes", "10", "--workers", "2"]]
+            ["model", "--nodes", "100"], ["model", "--size", "3", "--nodes", "10", "--workers", "2"],
+            ["model", "--size", "1", "--upto", "3", "--nodes", "10"]]
 SOON = b"assign(max_given,20). assign(max_kept,60).\n"
 
 

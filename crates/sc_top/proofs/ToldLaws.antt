@@ -17,7 +17,7 @@ use Rattle.sc_input_rules.specs.declared.fault.InputKind.TheVariants.{TooLong}
 use Rattle.sc_input_rules.specs.Faults.{place}
 use Rattle.sc_top.specs.Answers.{most_bytes, outcome_status, modelled_status, status_of, text_of, MakesText, IsAnswerTo}
 use Rattle.sc_top.specs.Runs.{IsProveAnswer}
-use Rattle.sc_top.specs.Models.{IsModelAnswer}
+use Rattle.sc_top.specs.Sought.{IsModelAnswer}
 use Rattle.sc_top.specs.Ladder.{IsBenchAnswer}
 use Rattle.sc_top.specs.Told.{IsAnswerBy, IsDecisive, AnswersBy, AnswersFor, ReadsNothing, IsStatusOfAnswer, Stands, StandsBy, IsDecided, TellsOf, IsWritten, IsAnswered, IsAnsweredBy, IsCutShort, IsCutShortBy, IsToldOf}
 use Rattle.sc_top.proofs.AnswerLaws.{one_answer, too_many}
@@ -33,20 +33,20 @@ answers_read command.Check None bytes a reads e h = tt
 answers_read command.Check (Some xs) bytes a reads e h = subst (λ (ys : List ℕ). IsAnswerTo ys a) e h
 answers_read (command.Prove plan) None bytes a reads e h = tt
 answers_read (command.Prove plan) (Some xs) bytes a reads e h = subst (λ (ys : List ℕ). IsProveAnswer plan ys a) e h
-answers_read (command.Model size nodes workers) None bytes a reads e h = tt
-answers_read (command.Model size nodes workers) (Some xs) bytes a reads e h = subst (λ (ys : List ℕ). IsModelAnswer size nodes ys a) e h
+answers_read (command.Model size upto nodes workers) None bytes a reads e h = tt
+answers_read (command.Model size upto nodes workers) (Some xs) bytes a reads e h = subst (λ (ys : List ℕ). IsModelAnswer size upto nodes ys a) e h
 answers_read (command.Bench rungs) told bytes a reads e h = absurd (reads tt)
 
 no_words_by : (command : Command) (bytes : List ℕ) → IsAnswerBy command bytes WordsRefused → ⊥
 no_words_by command.Check bytes h = h
 no_words_by (command.Prove plan) bytes h = h
-no_words_by (command.Model size nodes workers) bytes h = h
+no_words_by (command.Model size upto nodes workers) bytes h = h
 no_words_by (command.Bench rungs) bytes h = h
 
 no_fault_by : (command : Command) (bytes : List ℕ) → IsAnswerBy command bytes ReadFault → ⊥
 no_fault_by command.Check bytes h = h
 no_fault_by (command.Prove plan) bytes h = h
-no_fault_by (command.Model size nodes workers) bytes h = h
+no_fault_by (command.Model size upto nodes workers) bytes h = h
 no_fault_by (command.Bench rungs) bytes h = h
 
 pub stands_read : (command : Command) (told : Option (List ℕ)) (bytes : List ℕ) (before now : ℕ) (a : Answer) → ¬ ReadsNothing command → IfSome told (λ xs. bytes ≡ xs)
@@ -69,8 +69,8 @@ stands_long command.Check None before now reads h = tt
 stands_long command.Check (Some xs) before now reads h = too_many xs h
 stands_long (command.Prove plan) None before now reads h = tt
 stands_long (command.Prove plan) (Some xs) before now reads h = too_many_spell xs h
-stands_long (command.Model size nodes workers) None before now reads h = tt
-stands_long (command.Model size nodes workers) (Some xs) before now reads h = too_many_spell xs h
+stands_long (command.Model size upto nodes workers) None before now reads h = tt
+stands_long (command.Model size upto nodes workers) (Some xs) before now reads h = too_many_spell xs h
 stands_long (command.Bench rungs) told before now reads h = absurd (reads tt)
 
 -- an answer to a ladder stands, whatever the source is
@@ -105,14 +105,14 @@ stands_for words command told before now OutOfMemory asked h = tt
 one_by : (command : Command) (bytes : List ℕ) (a b : Answer) → IsDecisive command bytes → IsAnswerBy command bytes a → IsAnswerBy command bytes b → a ≡ b
 one_by command.Check bytes a b d h k = one_answer bytes a b h k
 one_by (command.Prove plan) bytes a b d h k = one_prove_answer plan bytes a b d.0 d.1 h k
-one_by (command.Model size nodes workers) bytes a b d h k = absurd d
+one_by (command.Model size upto nodes workers) bytes a b d h k = absurd d
 one_by (command.Bench rungs) bytes a b d h k = one_bench_answer rungs a b d h k
 
 -- an answer to bytes that are told is one to the bytes
 told_answer : (command : Command) (bytes : List ℕ) (a : Answer) → AnswersBy command (Some bytes) a → IsAnswerBy command bytes a
 told_answer command.Check bytes a h = h
 told_answer (command.Prove plan) bytes a h = h
-told_answer (command.Model size nodes workers) bytes a h = h
+told_answer (command.Model size upto nodes workers) bytes a h = h
 told_answer (command.Bench rungs) bytes a h = h
 
 -- ---- what was written
@@ -189,6 +189,8 @@ no_fault_modelled (modelled.NoModel size) e = omega (arith, e)
 no_fault_modelled (modelled.Spent piece) e = omega (arith, e)
 no_fault_modelled (modelled.TooManyCells count) e = omega (arith, e)
 no_fault_modelled (modelled.TooManyInstances count) e = omega (arith, e)
+no_fault_modelled (modelled.NoModelOfSizes from to) e = omega (arith, e)
+no_fault_modelled (modelled.SpentSize size piece) e = omega (arith, e)
 
 fault_of : (command : Command) (told : Option (List ℕ)) (before now : ℕ) (a : Answer) → StandsBy command told before now a → status_of a ≡ 5 → Rose before now
 fault_of command told before now (ProofChecked n) h e = absurd (omega (arith, e))
@@ -244,6 +246,8 @@ status_of_modelled (modelled.NoModel size) = omega arith
 status_of_modelled (modelled.Spent piece) = omega arith
 status_of_modelled (modelled.TooManyCells count) = omega arith
 status_of_modelled (modelled.TooManyInstances count) = omega arith
+status_of_modelled (modelled.NoModelOfSizes from to) = omega arith
+status_of_modelled (modelled.SpentSize size piece) = omega arith
 
 status_of_answer : (a : Answer) → status_of a ≢ 4 → status_of a ≢ 5 → IsStatusOfAnswer (status_of a)
 status_of_answer (ProofChecked n) four five = inl (omega arith)

@@ -1,5 +1,5 @@
--- The answer to bytes of whose clauses a model is sought.
-use Rattle.std.specs.Prelude.{◌≡◌, ◌<◌, ◌≤◌, ℕ, List, Option, None, Ok, Err, min, ⊤}
+-- What becomes of a search for a model of a problem's clauses at one size.
+use Rattle.std.specs.Prelude.{◌≡◌, ◌<◌, ◌≤◌, ℕ, List, Option, None, min, ⊤}
 use Rattle.sc_input_rules.specs.Problem.{Stated}
 use Rattle.sc_interp.specs.Structure.{Structure, IsStructure}
 use Rattle.sc_text_run_rules.specs.ModelText.{model_text}
@@ -9,11 +9,8 @@ use Rattle.sc_cells.specs.Ground.{instance_count}
 use Rattle.sc_find.specs.Models.{IsPiece, IsFirstModel, FindsNoModel, ExceedsBudget}
 use Rattle.sc_find.specs.Answers.{NoneBefore}
 use Rattle.sc_find_laws.specs.Meaning.{task_of, AreTrueIn, IsSatisfying}
-use Rattle.sc_top.specs.Runs.{spelled_problem}
 use Rattle.sc_top.specs.declared.answer.Modelled.{Modelled}
 use Rattle.sc_top.specs.declared.answer.Modelled.TheVariants as modelled
-use Rattle.sc_top.specs.declared.answer.Answer.{Answer}
-use Rattle.sc_top.specs.declared.answer.Answer.TheVariants.{ProofChecked, NotAProof, Ran, Model, Benched, InputRefused, WordsRefused, ReadFault, OutOfMemory}
 
 -- the tables are the first model of the problem's clauses, which are true in them, and the text is that of the tables
 pub record HasModelText (problem : Stated) (size : ℕ) (text : List ℕ) : Type 0 where
@@ -45,6 +42,8 @@ IsModelled problem size nodes (modelled.TooManyCells count) = (count ≡ cell_co
 IsModelled problem size nodes (modelled.TooManyInstances count) =
     (cell_count problem.symbols size ≤ 4096) × (count ≡ min (instance_count problem.inputs size) 1000000000)
     × (200000 < instance_count problem.inputs size)
+IsModelled problem size nodes (modelled.NoModelOfSizes from to) = ⊥
+IsModelled problem size nodes (modelled.SpentSize s p) = ⊥
 
 -- where the search was made, there were no more cells and instances than may be searched
 abbrev pub IsWithin : Stated → ℕ → Modelled → Type 0
@@ -53,22 +52,5 @@ IsWithin problem size (modelled.NoModel told) = MayBeSearched problem size
 IsWithin problem size (modelled.Spent p) = MayBeSearched problem size
 IsWithin problem size (modelled.TooManyCells count) = ⊤
 IsWithin problem size (modelled.TooManyInstances count) = ⊤
-
--- the bytes spell a problem of which this becomes
-pub record HasModelled (size nodes : ℕ) (m : Modelled) (bytes : List ℕ) : Type 0 where
-  pub problem : Stated
-  pub is_read : spelled_problem bytes ≡ Ok problem
-  pub modelled : IsModelled problem size nodes m
-  pub within : IsWithin problem size m
-
--- an answer to the bytes, where a model of their clauses is sought: where the budget is spent another may be one too
-abbrev pub IsModelAnswer : ℕ → ℕ → List ℕ → Answer → Type 0
-IsModelAnswer size nodes bytes (ProofChecked n) = ⊥
-IsModelAnswer size nodes bytes (NotAProof k) = ⊥
-IsModelAnswer size nodes bytes (Ran o text) = ⊥
-IsModelAnswer size nodes bytes (Model m) = HasModelled size nodes m bytes
-IsModelAnswer size nodes bytes (Benched run) = ⊥
-IsModelAnswer size nodes bytes (InputRefused p) = spelled_problem bytes ≡ Err p
-IsModelAnswer size nodes bytes WordsRefused = ⊥
-IsModelAnswer size nodes bytes ReadFault = ⊥
-IsModelAnswer size nodes bytes OutOfMemory = ⊥
+IsWithin problem size (modelled.NoModelOfSizes from to) = ⊥
+IsWithin problem size (modelled.SpentSize s p) = ⊥

@@ -11,21 +11,21 @@ use Rattle.sc_top.specs.declared.answer.Answer.TheVariants.{ProofChecked, NotAPr
 use Rattle.sc_top_words.specs.Words.{Asks}
 use Rattle.sc_top.specs.Answers.{status_of, text_of, IsAnswerTo}
 use Rattle.sc_top.specs.Runs.{IsProveAnswer, SpellNeverSpent}
-use Rattle.sc_top.specs.Models.{IsModelAnswer}
+use Rattle.sc_top.specs.Sought.{IsModelAnswer}
 use Rattle.sc_top.specs.Ladder.{ladder, bench_plan, IsBenchAnswer}
 
 -- an answer to the bytes, for the command; `bench` has the same ones whatever they are
 abbrev pub IsAnswerBy : Command → List ℕ → Answer → Type 0
 IsAnswerBy command.Check bytes a = IsAnswerTo bytes a
 IsAnswerBy (command.Prove plan) bytes a = IsProveAnswer plan bytes a
-IsAnswerBy (command.Model size nodes workers) bytes a = IsModelAnswer size nodes bytes a
+IsAnswerBy (command.Model size upto nodes workers) bytes a = IsModelAnswer size upto nodes bytes a
 IsAnswerBy (command.Bench rungs) bytes a = IsBenchAnswer rungs a
 
 -- an answer to the source's bytes, for the command, where it tells them; to `bench`, whether it tells them or not
 abbrev pub AnswersBy : Command → Option (List ℕ) → Answer → Type 0
 AnswersBy command.Check told a = IfSome told (λ bytes. IsAnswerTo bytes a)
 AnswersBy (command.Prove plan) told a = IfSome told (λ bytes. IsProveAnswer plan bytes a)
-AnswersBy (command.Model size nodes workers) told a = IfSome told (λ bytes. IsModelAnswer size nodes bytes a)
+AnswersBy (command.Model size upto nodes workers) told a = IfSome told (λ bytes. IsModelAnswer size upto nodes bytes a)
 AnswersBy (command.Bench rungs) told a = IsBenchAnswer rungs a
 
 -- the bytes decide one answer for the command; a search for a model may be given up where its budget is spent, and where
@@ -33,7 +33,7 @@ AnswersBy (command.Bench rungs) told a = IsBenchAnswer rungs a
 abbrev pub IsDecisive : Command → List ℕ → Type 0
 IsDecisive command.Check bytes = ⊤
 IsDecisive (command.Prove plan) bytes = (plan.finders ≡ 0) × SpellNeverSpent plan bytes
-IsDecisive (command.Model size nodes workers) bytes = ⊥
+IsDecisive (command.Model size upto nodes workers) bytes = ⊥
 IsDecisive (command.Bench rungs) bytes = SpellNeverSpent bench_plan (ladder rungs)
 
 -- the words ask for a command, and the answer is one to the source's bytes, where it tells them
@@ -68,18 +68,18 @@ Stands words told before now (Model m) = AnswersFor words told (Model m)
 Stands words told before now (Benched run) = AnswersFor words told (Benched run)
 Stands words told before now (InputRefused p) = AnswersFor words told (InputRefused p)
 
--- the command asks for no finder beside the prover
+-- the command asks for no finder beside the prover, and for no more workers than the thread that asks
 abbrev pub IsAlone : Command → Type 0
 IsAlone command.Check = ⊤
 IsAlone (command.Prove plan) = plan.finders ≡ 0
-IsAlone (command.Model size nodes workers) = ⊤
+IsAlone (command.Model size upto nodes workers) = workers ≤ 1
 IsAlone (command.Bench rungs) = ⊤
 
 -- the command asks for nothing of the source
 abbrev pub ReadsNothing : Command → Type 0
 ReadsNothing command.Check = ⊥
 ReadsNothing (command.Prove plan) = ⊥
-ReadsNothing (command.Model size nodes workers) = ⊥
+ReadsNothing (command.Model size upto nodes workers) = ⊥
 ReadsNothing (command.Bench rungs) = ⊤
 
 -- 0, 1 or 2 as the answer is good, bad or given up, 3 where the input is refused, or 7 where memory was wanting

@@ -21,6 +21,10 @@ pub enum Modelled {
     TooManyCells { count: u64 },
     /// The clauses have so many instances, more than may be searched.
     TooManyInstances { count: u64 },
+    /// There is none of any of these sizes.
+    NoModelOfSizes { from: u8, to: u8 },
+    /// The budget of nodes was spent in this piece, from 1, of this size, and no smaller one has a model.
+    SpentSize { size: u8, piece: u32 },
 }
 
 /// How the run of a ladder ended.
@@ -113,6 +117,8 @@ fn modelled_status(modelled: &Modelled) -> u8
         Modelled::Spent { .. } => 2,
         Modelled::TooManyCells { .. } => 2,
         Modelled::TooManyInstances { .. } => 2,
+        Modelled::NoModelOfSizes { .. } => 1,
+        Modelled::SpentSize { .. } => 2,
     }
 }
 
@@ -127,7 +133,39 @@ fn found_text(modelled: &Modelled) -> Option<&[u8]>
         Modelled::Spent { .. } => None,
         Modelled::TooManyCells { .. } => None,
         Modelled::TooManyInstances { .. } => None,
+        Modelled::NoModelOfSizes { .. } => None,
+        Modelled::SpentSize { .. } => None,
     }
+}
+
+/// Adds the label, and the number behind it.
+fn add_count(alloc: Global, label: &str, n: u64, text: &mut String) -> Mem<()>
+    ensures { OnOk result (string_bytes text.new ≡ string_bytes text.old ++ label.now ++ decimal n) }
+{
+    let number = format!(in alloc; "{n}")?;
+    text.push_str(label)?;
+    text.push_str(number.as_str())?;
+    Ok(())
+}
+
+/// The text where no size from the first to the last has a model.
+fn sizes_text(alloc: Global, from: u8, to: u8) -> Mem<String>
+    ensures { IfOk result (λ text. string_bytes text ≡ codes "no model of sizes " ++ decimal from ++ codes " to " ++ decimal to ++ codes "\n") }
+{
+    let mut text = format!(in alloc; "no model of sizes {from}")?;
+    add_count(alloc, " to ", to as u64, &mut text)?;
+    text.push_str("\n")?;
+    Ok(text)
+}
+
+/// The text where the budget was spent in a piece of a size.
+fn spent_text(alloc: Global, size: u8, piece: u32) -> Mem<String>
+    ensures { IfOk result (λ text. string_bytes text ≡ codes "spent size " ++ decimal size ++ codes " piece " ++ decimal piece ++ codes "\n") }
+{
+    let mut text = format!(in alloc; "spent size {size}")?;
+    add_count(alloc, " piece ", piece as u64, &mut text)?;
+    text.push_str("\n")?;
+    Ok(text)
 }
 
 /// The text of a search for a model, where that is made when it is written.
@@ -143,6 +181,8 @@ fn modelled_text(alloc: Global, modelled: &Modelled) -> Mem<String>
         Modelled::TooManyInstances { count } => {
             format!(in alloc; "too wide: {count} instances\n")?
         }
+        Modelled::NoModelOfSizes { from, to } => sizes_text(alloc, *from, *to)?,
+        Modelled::SpentSize { size, piece } => spent_text(alloc, *size, *piece)?,
     })
 }
 
@@ -157,16 +197,6 @@ fn outcome_word(outcome: Outcome) -> &'static str
         Outcome::KeptLimit(_) => "kept_limit",
         Outcome::WorkLimit(_) => "work_limit",
     }
-}
-
-/// Adds the label, and the number behind it.
-fn add_count(alloc: Global, label: &str, n: u64, text: &mut String) -> Mem<()>
-    ensures { OnOk result (string_bytes text.new ≡ string_bytes text.old ++ label.now ++ decimal n) }
-{
-    let number = format!(in alloc; "{n}")?;
-    text.push_str(label)?;
-    text.push_str(number.as_str())?;
-    Ok(())
 }
 
 /// The text of the run of a ladder.

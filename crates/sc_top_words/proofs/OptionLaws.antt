@@ -1,17 +1,17 @@
 -- Words spell one list of options, and how what is kept of them goes on from option to option.
-use Rattle.std.proofs.Common.{◌≡◌, ◌∙◌, sym, ap, refl, subst, inl, inr, ℕ, Bool, true, false, true≢false, List, [], ◌∷◌, ◌++◌, map, filter, length, ◌==◌, append_assoc, append-nil, arith}
+use Rattle.std.proofs.Common.{◌≡◌, ◌≤◌, ◌∙◌, sym, ap, refl, subst, inl, inr, ℕ, Bool, true, false, true≢false, List, [], ◌∷◌, ◌++◌, map, filter, length, ◌==◌, append_assoc, append-nil, arith}
 use Rattle.std.specs.Prelude.{◌≢◌, Option, Some, None, IfSome, String, string_bytes, codes, cond}
 use Rattle.std.specs.declared.alloc.Global.{Global}
 use Rattle.std.proofs.lemmas.Bool.{eqb-true}
 use Rattle.std.proofs.lemmas.List.{map-append}
 use Rattle.std.proofs.lemmas.List.Elements.{filter-append}
 use Rattle.sc_top_words.specs.declared.options.OptionName.{OptionName}
-use Rattle.sc_top_words.specs.declared.options.OptionName.TheVariants.{Finders, Size, Nodes, Candidates, Workers}
+use Rattle.sc_top_words.specs.declared.options.OptionName.TheVariants.{Finders, Size, Upto, Nodes, Candidates, Workers}
 use Rattle.sc_top_words.specs.declared.options.Row.{Row}
 use Rattle.sc_top_words.specs.declared.taking.Taken.{Taken}
-use Rattle.sc_top_words.specs.Options.{spelling, row_of, IsValue, Given, in_one, IsFirst, Spell, is_same, values_of, IsChosen}
+use Rattle.sc_top_words.specs.Options.{spelling, row_of, IsValue, Given, in_one, IsFirst, Spell, is_same, values_of, IsChosen, IsKept}
 use Rattle.sc_top_words.specs.Words.{texts}
-use Rattle.sc_top_words.specs.Taking.{kept_for, with_kept, IsKept, AreTaken, FitValues, AreFit, MayBeTaken, IsTakenIn, IsIn, AreInRange}
+use Rattle.sc_top_words.specs.Taking.{kept_for, with_kept, AreTaken, FitValues, AreFit, MayBeTaken, IsTakenIn, IsIn, AreInRange, chosen_for}
 
 -- ---- lists
 
@@ -43,6 +43,7 @@ initial text = first_of (behind_first (behind_first text))
 by_initial : (a b : OptionName) → initial (spelling a) ≡ initial (spelling b) → a ≡ b
 by_initial Finders Finders e = refl
 by_initial Size Size e = refl
+by_initial Upto Upto e = refl
 by_initial Nodes Nodes e = refl
 by_initial Candidates Candidates e = refl
 by_initial Workers Workers e = refl
@@ -54,6 +55,7 @@ initial_in_one o = by o.name o.value
     by : (name : OptionName) (value : List ℕ) → initial (in_one (record { name = name; value = value })) ≡ initial (spelling name)
     by Finders value = refl
     by Size value = refl
+    by Upto value = refl
     by Nodes value = refl
     by Candidates value = refl
     by Workers value = refl
@@ -121,6 +123,7 @@ options_are_one words (o ∷ os) (p ∷ ps) h k =
 pub same_name : (a b : OptionName) → is_same a b ≡ true → a ≡ b
 same_name Finders Finders e = refl
 same_name Size Size e = refl
+same_name Upto Upto e = refl
 same_name Nodes Nodes e = refl
 same_name Candidates Candidates e = refl
 same_name Workers Workers e = refl
@@ -129,6 +132,7 @@ same_name a b e = absurd (true≢false (sym e))
 same_as_itself : (a : OptionName) → is_same a a ≡ true
 same_as_itself Finders = refl
 same_as_itself Size = refl
+same_as_itself Upto = refl
 same_as_itself Nodes = refl
 same_as_itself Candidates = refl
 same_as_itself Workers = refl
@@ -149,6 +153,7 @@ other_first name o os e = rw e refl
 kept_then : (name other : OptionName) (n : ℕ) (taken : Taken) → kept_for other (with_kept name n taken) ≡ cond (is_same other name) (Some n) (kept_for other taken)
 kept_then Finders Finders n taken = refl
 kept_then Size Size n taken = refl
+kept_then Upto Upto n taken = refl
 kept_then Nodes Nodes n taken = refl
 kept_then Candidates Candidates n taken = refl
 kept_then Workers Workers n taken = refl
@@ -260,6 +265,31 @@ chosen_is_one row m n [] h k = h ∙ sym k
 chosen_is_one row m n (value ∷ []) h k = h.spelled ∙ sym k.spelled
 chosen_is_one row m n (value ∷ other ∷ values) h k = absurd h
 
+-- the number that is chosen where that is kept
+pub kept_number : (row : Row) (kept : Option ℕ) (values : List (List ℕ)) → IsKept row kept values → IsChosen row values (elim kept [ None ↦ row.usual | Some n ↦ n ])
+kept_number row None [] h = refl
+kept_number row None (value ∷ values) h = absurd h
+kept_number row (Some n) [] h = absurd h
+kept_number row (Some n) (value ∷ []) h = h
+kept_number row (Some n) (value ∷ other ∷ values) h = absurd h
+
+pub kept_fits : (row : Row) (kept : Option ℕ) (values : List (List ℕ)) → IsKept row kept values → FitValues row values
+kept_fits row None [] h = tt
+kept_fits row None (value ∷ values) h = absurd h
+kept_fits row (Some n) [] h = absurd h
+kept_fits row (Some n) (value ∷ []) h = (n, h)
+kept_fits row (Some n) (value ∷ other ∷ values) h = absurd h
+
+pub kept_is_one : (row : Row) (a b : Option ℕ) (values : List (List ℕ)) → IsKept row a values → IsKept row b values → a ≡ b
+kept_is_one row None None values h k = refl
+kept_is_one row None (Some n) [] h k = absurd k
+kept_is_one row None (Some n) (value ∷ values) h k = absurd h
+kept_is_one row (Some m) None [] h k = absurd h
+kept_is_one row (Some m) None (value ∷ values) h k = absurd k
+kept_is_one row (Some m) (Some n) [] h k = absurd h
+kept_is_one row (Some m) (Some n) (value ∷ []) h k = ap Some (h.spelled ∙ sym k.spelled)
+kept_is_one row (Some m) (Some n) (value ∷ other ∷ values) h k = absurd h
+
 some_given : (row : Row) (n : ℕ) (values : List (List ℕ)) → IsKept row (Some n) values → values ≡ [] → ⊥
 some_given row n [] h e = h
 some_given row n (value ∷ values) h e = no_word value values e
@@ -283,13 +313,15 @@ some_texts [] e h = absurd cc
 some_texts (word ∷ words) e h = no_word (string_bytes word) (texts words) h
 
 pub no_option_in_one : (word : List ℕ) → ((v : List ℕ) → word ≢ codes "--finders=" ++ v) → ((v : List ℕ) → word ≢ codes "--size=" ++ v)
-    → ((v : List ℕ) → word ≢ codes "--nodes=" ++ v) → ((v : List ℕ) → word ≢ codes "--candidates=" ++ v) → ((v : List ℕ) → word ≢ codes "--workers=" ++ v)
+    → ((v : List ℕ) → word ≢ codes "--upto=" ++ v) → ((v : List ℕ) → word ≢ codes "--nodes=" ++ v)
+    → ((v : List ℕ) → word ≢ codes "--candidates=" ++ v) → ((v : List ℕ) → word ≢ codes "--workers=" ++ v)
     → (o : Given) → word ≢ in_one o
-no_option_in_one word finders size nodes candidates workers o = by o.name o.value
+no_option_in_one word finders size upto nodes candidates workers o = by o.name o.value
   where
     by : (name : OptionName) (value : List ℕ) → word ≢ in_one (record { name = name; value = value })
     by Finders value e = finders value e
     by Size value e = size value e
+    by Upto value e = upto value e
     by Nodes value e = nodes value e
     by Candidates value e = candidates value e
     by Workers value e = workers value e
@@ -309,3 +341,21 @@ more_in_range old new o h all name =
           ap (kept_for name) h.kept ∙ kept_then o.name name h.number old ∙ ap (λ (b : Bool). cond b (Some h.number) (kept_for name old)) e in
           subst (λ (kept : Option ℕ). IfSome kept (IsIn (row_of name))) (sym number) (all name)
     ] refl
+
+usual_in_range : (name : OptionName) → IsIn (row_of name) (row_of name).usual
+usual_in_range Finders = (omega arith, omega arith)
+usual_in_range Size = (omega arith, omega arith)
+usual_in_range Upto = (omega arith, omega arith)
+usual_in_range Nodes = (omega arith, omega arith)
+usual_in_range Candidates = (omega arith, omega arith)
+usual_in_range Workers = (omega arith, omega arith)
+
+pub chosen_in_range : (name : OptionName) (taken : Taken) → AreInRange taken → IsIn (row_of name) (chosen_for name taken)
+chosen_in_range name taken h = by (kept_for name taken) (h name)
+  where
+    by : (kept : Option ℕ) → IfSome kept (IsIn (row_of name)) → IsIn (row_of name) (elim kept [ None ↦ (row_of name).usual | Some n ↦ n ])
+    by None within = usual_in_range name
+    by (Some n) within = within
+
+pub last_is_small : (taken : Taken) (n : ℕ) → AreInRange taken → taken.upto ≡ Some n → n ≤ 8
+last_is_small taken n h e = (subst (λ (kept : Option ℕ). IfSome kept (IsIn (row_of Upto))) e (h Upto)).1

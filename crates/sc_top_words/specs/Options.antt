@@ -1,10 +1,10 @@
 -- The options that stand behind a command's word: how words spell them, and the value that is asked for each name.
-use Rattle.std.specs.Prelude.{◌≡◌, ◌<◌, ◌≤◌, ◌⊎◌, ℕ, Bool, List, [], ◌∷◌, ◌++◌, true, false, codes, length, map, filter}
+use Rattle.std.specs.Prelude.{◌≡◌, ◌<◌, ◌≤◌, ◌⊎◌, ⊤, ℕ, Bool, List, [], ◌∷◌, ◌++◌, Option, Some, None, true, false, codes, length, map, filter}
 use Rattle.std.specs.List.{list_all}
 use Rattle.std.specs.Str.Parse.{digits_value}
 use Rattle.sc_input_rules.specs.Tokens.{is_digit}
 use Rattle.sc_top_words.specs.declared.options.OptionName.{OptionName}
-use Rattle.sc_top_words.specs.declared.options.OptionName.TheVariants.{Finders, Size, Nodes, Candidates, Workers}
+use Rattle.sc_top_words.specs.declared.options.OptionName.TheVariants.{Finders, Size, Upto, Nodes, Candidates, Workers}
 use Rattle.sc_top_words.specs.declared.options.Row.{Row}
 
 -- ---- names and values
@@ -13,14 +13,17 @@ use Rattle.sc_top_words.specs.declared.options.Row.{Row}
 abbrev pub spelling : OptionName → List ℕ
 spelling Finders = codes "--finders"
 spelling Size = codes "--size"
+spelling Upto = codes "--upto"
 spelling Nodes = codes "--nodes"
 spelling Candidates = codes "--candidates"
 spelling Workers = codes "--workers"
 
--- the numbers that are taken for the name, from the lowest to the highest, and the usual one
+-- the numbers that are taken for the name, from the lowest to the highest, and the usual one; a last size is asked for only
+-- where it is given, so that nothing rests on the usual one of `Upto`
 abbrev pub row_of : OptionName → Row
 row_of Finders = record { low = 0; high = 8; usual = 2 }
 row_of Size = record { low = 1; high = 8; usual = 2 }
+row_of Upto = record { low = 1; high = 8; usual = 8 }
 row_of Nodes = record { low = 1; high = 10000000; usual = 100000 }
 row_of Candidates = record { low = 0; high = 128; usual = 128 }
 row_of Workers = record { low = 1; high = 8; usual = 1 }
@@ -60,6 +63,7 @@ Spell words (option ∷ options) = (behind : List (List ℕ)) × IsFirst words o
 abbrev pub is_same : OptionName → OptionName → Bool
 is_same Finders Finders = true
 is_same Size Size = true
+is_same Upto Upto = true
 is_same Nodes Nodes = true
 is_same Candidates Candidates = true
 is_same Workers Workers = true
@@ -79,3 +83,11 @@ IsChosen row (value ∷ other ∷ values) n = ⊥
 -- the value that the options ask for the name
 abbrev pub IsChoice : List Given → OptionName → ℕ → Type 0
 IsChoice options name n = IsChosen (row_of name) (values_of name options) n
+
+-- the number is that of the one value that is given, which is in the range, and there is none where no value is given
+abbrev pub IsKept : Row → Option ℕ → List (List ℕ) → Type 0
+IsKept row None [] = ⊤
+IsKept row None (value ∷ values) = ⊥
+IsKept row (Some n) [] = ⊥
+IsKept row (Some n) (value ∷ []) = IsValue row.low row.high value n
+IsKept row (Some n) (value ∷ other ∷ values) = ⊥

@@ -23,4 +23,4 @@ plan_of taken =
 
 -- the search for a model that the numbers ask for
 abbrev pub model_of : Taken → Command
-model_of taken = Model (chosen_for Size taken) (chosen_for Nodes taken) (chosen_for Workers taken)
+model_of taken = Model (chosen_for Size taken) taken.upto (chosen_for Nodes taken) (chosen_for Workers taken)

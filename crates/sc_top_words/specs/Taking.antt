@@ -1,15 +1,16 @@
 -- What a reader of options keeps while it goes through the words.
 use Rattle.std.specs.Prelude.{◌≡◌, ◌≤◌, ⊤, ℕ, List, [], ◌∷◌, Option, Some, None, IfSome}
 use Rattle.sc_top_words.specs.declared.options.OptionName.{OptionName}
-use Rattle.sc_top_words.specs.declared.options.OptionName.TheVariants.{Finders, Size, Nodes, Candidates, Workers}
+use Rattle.sc_top_words.specs.declared.options.OptionName.TheVariants.{Finders, Size, Upto, Nodes, Candidates, Workers}
 use Rattle.sc_top_words.specs.declared.options.Row.{Row}
 use Rattle.sc_top_words.specs.declared.taking.Taken.{Taken}
-use Rattle.sc_top_words.specs.Options.{Given, Spell, row_of, values_of, IsValue}
+use Rattle.sc_top_words.specs.Options.{Given, Spell, row_of, values_of, IsValue, IsKept}
 
 -- the number that is kept for the name
 abbrev pub kept_for : OptionName → Taken → Option ℕ
 kept_for Finders taken = taken.finders
 kept_for Size taken = taken.size
+kept_for Upto taken = taken.upto
 kept_for Nodes taken = taken.nodes
 kept_for Candidates taken = taken.candidates
 kept_for Workers taken = taken.workers
@@ -18,17 +19,10 @@ kept_for Workers taken = taken.workers
 abbrev pub with_kept : OptionName → ℕ → Taken → Taken
 with_kept Finders n taken = record taken { finders = Some n }
 with_kept Size n taken = record taken { size = Some n }
+with_kept Upto n taken = record taken { upto = Some n }
 with_kept Nodes n taken = record taken { nodes = Some n }
 with_kept Candidates n taken = record taken { candidates = Some n }
 with_kept Workers n taken = record taken { workers = Some n }
-
--- the number of the one value in the range is kept, and none where there is no value
-abbrev pub IsKept : Row → Option ℕ → List (List ℕ) → Type 0
-IsKept row None [] = ⊤
-IsKept row None (value ∷ values) = ⊥
-IsKept row (Some n) [] = ⊥
-IsKept row (Some n) (value ∷ []) = IsValue row.low row.high value n
-IsKept row (Some n) (value ∷ other ∷ values) = ⊥
 
 -- the words spell options, of whose values these numbers are kept
 pub record AreTaken (words : List (List ℕ)) (taken : Taken) : Type 0 where
@@ -70,3 +64,7 @@ AreInRange taken = (name : OptionName) → IfSome (kept_for name taken) (IsIn (r
 -- the number for the name, which is the usual one where none is kept
 abbrev pub chosen_for : OptionName → Taken → ℕ
 chosen_for name taken = elim (kept_for name taken) [ None ↦ (row_of name).usual | Some n ↦ n ]
+
+-- the last size, where one is kept, isn't below the first one
+abbrev pub AreInOrder : Taken → Type 0
+AreInOrder taken = IfSome taken.upto (λ (last : ℕ). chosen_for Size taken ≤ last)

@@ -3,12 +3,12 @@
 ghost use Rattle.std.specs.Prelude.{◌≡◌, ◌↔◌, IfSome, IsTrue, MatchOption, codes, string_bytes};
 ghost use Rattle.sc_top_words.specs.declared.commands.Command.{Command as ACommand};
 ghost use Rattle.sc_top_words.specs.Words.{texts, Asks, IsInRange};
-ghost use Rattle.sc_top_words.specs.Taking.{AreInRange};
+ghost use Rattle.sc_top_words.specs.Taking.{AreInRange, AreInOrder};
 ghost use Rattle.sc_top_words.specs.Reading.{IsReadOf, plan_of, model_of};
 ghost use Rattle.sc_worker.specs.Plans.{IsPlan};
 
 use crate::options::{OptionName, RUNGS, value_in};
-use crate::taking::{Taken, chosen, read_options};
+use crate::taking::{Taken, are_in_order, chosen, read_options};
 use sc_worker::Plan;
 
 /// What the words ask for.
@@ -18,10 +18,18 @@ pub enum Command {
     Check,
     /// A proof is sought, and models beside it by this plan.
     Prove(Plan),
-    /// A model of this size is sought, with this budget of nodes for each piece, by so many workers.
-    Model { size: u8, nodes: u64, workers: u32 },
+    /// A model of this size is sought, or of the least size from it up to another, with this budget of nodes for each piece,
+    /// by so many workers.
+    Model {
+        size: u8,
+        upto: Option<u8>,
+        nodes: u64,
+        workers: u32,
+    },
     /// A proof of the ladder with so many rungs is sought.
-    Bench { rungs: u32 },
+    Bench {
+        rungs: u32,
+    },
 }
 
 fn is_word(word: &String, text: &str) -> bool
@@ -61,18 +69,34 @@ fn read_prove(words: &[String]) -> Option<Command>
     let taken = read_options(words)?;
     match taken.workers {
         Some(_) => None,
-        None => Some(Command::Prove(plan_of(taken))),
+        None => match taken.upto {
+            Some(_) => None,
+            None => Some(Command::Prove(plan_of(taken))),
+        },
+    }
+}
+
+/// The last size, where one was given.
+fn last_size(taken: Taken) -> Option<u8>
+    requires { AreInRange taken }
+    ensures { result ≡ taken.upto }
+{
+    match taken.upto {
+        Some(last) => Some(last as u8),
+        None => None,
     }
 }
 
 /// The search for a model that the numbers ask for.
 fn model_of(taken: Taken) -> Command
-    requires { AreInRange taken }
+    requires in_range { AreInRange taken }
+    requires in_order { AreInOrder taken }
     ensures is { result ≡ model_of taken }
     ensures in_range { IsInRange result }
 {
     Command::Model {
         size: chosen(OptionName::Size, taken) as u8,
+        upto: last_size(taken),
         nodes: chosen(OptionName::Nodes, taken),
         workers: chosen(OptionName::Workers, taken) as u32,
     }
@@ -83,6 +107,9 @@ fn read_model(words: &[String]) -> Option<Command>
     ensures in_range { IfSome result IsInRange }
 {
     let taken = read_options(words)?;
+    if !are_in_order(taken) {
+        return None;
+    }
     match taken.finders {
         Some(_) => None,
         None => match taken.candidates {

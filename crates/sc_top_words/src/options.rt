@@ -12,12 +12,13 @@ use sc_input_scan::numeral_value;
 pub enum OptionName {
     Finders,
     Size,
+    Upto,
     Nodes,
     Candidates,
     Workers,
 }
 
-/// The numbers that an option takes, and the one that is taken where it isn't given.
+/// The numbers that an option takes, and the one that is taken where it isn't given; nothing rests on that of `Upto`.
 #[derive(Clone, Copy)]
 pub struct Row {
     pub low: u64,
@@ -38,6 +39,7 @@ pub fn row_of(name: OptionName) -> Row
     let (low, high, usual) = match name {
         OptionName::Finders => (0, 8, 2),
         OptionName::Size => (1, 8, 2),
+        OptionName::Upto => (1, 8, 8),
         OptionName::Nodes => (1, 10_000_000, 100_000),
         OptionName::Candidates => (0, 128, 128),
         OptionName::Workers => (1, 8, 1),
@@ -75,6 +77,9 @@ fn name_of(word: &[u8]) -> Option<OptionName>
     if is_text(word, b"--size") {
         return Some(OptionName::Size);
     }
+    if is_text(word, b"--upto") {
+        return Some(OptionName::Upto);
+    }
     if is_text(word, b"--nodes") {
         return Some(OptionName::Nodes);
     }
@@ -103,6 +108,9 @@ fn option_in_one(word: &[u8]) -> Option<(OptionName, &[u8])>
     }
     if let Some(value) = behind(word, b"--size=") {
         return Some((OptionName::Size, value));
+    }
+    if let Some(value) = behind(word, b"--upto=") {
+        return Some((OptionName::Upto, value));
     }
     if let Some(value) = behind(word, b"--nodes=") {
         return Some((OptionName::Nodes, value));

@@ -1,9 +1,9 @@
 //! The values that words give for the names of options.
 
-ghost use Rattle.std.specs.Prelude.{◌≡◌, ◌≤◌, ℕ, IfSome, MatchOption};
+ghost use Rattle.std.specs.Prelude.{◌≡◌, ◌↔◌, ◌≤◌, ℕ, IfSome, IsTrue, MatchOption};
 ghost use Rattle.sc_top_words.specs.Options.{row_of};
 ghost use Rattle.sc_top_words.specs.Words.{texts};
-ghost use Rattle.sc_top_words.specs.Taking.{kept_for, with_kept, AreTaken, AreFit, MayBeTaken, IsTakenIn, IsIn, AreInRange, chosen_for};
+ghost use Rattle.sc_top_words.specs.Taking.{kept_for, with_kept, AreTaken, AreFit, MayBeTaken, IsTakenIn, IsIn, AreInRange, chosen_for, AreInOrder};
 
 use crate::options::{OptionName, next_option, row_of, value_in};
 
@@ -12,6 +12,7 @@ use crate::options::{OptionName, next_option, row_of, value_in};
 pub struct Taken {
     pub finders: Option<u64>,
     pub size: Option<u64>,
+    pub upto: Option<u64>,
     pub nodes: Option<u64>,
     pub candidates: Option<u64>,
     pub workers: Option<u64>,
@@ -20,6 +21,7 @@ pub struct Taken {
 const NOTHING: Taken = Taken {
     finders: None,
     size: None,
+    upto: None,
     nodes: None,
     candidates: None,
     workers: None,
@@ -31,6 +33,7 @@ fn kept_for(name: OptionName, taken: Taken) -> Option<u64>
     match name {
         OptionName::Finders => taken.finders,
         OptionName::Size => taken.size,
+        OptionName::Upto => taken.upto,
         OptionName::Nodes => taken.nodes,
         OptionName::Candidates => taken.candidates,
         OptionName::Workers => taken.workers,
@@ -44,6 +47,7 @@ fn with_kept(name: OptionName, n: u64, taken: Taken) -> Taken
     match name {
         OptionName::Finders => taken.finders = Some(n),
         OptionName::Size => taken.size = Some(n),
+        OptionName::Upto => taken.upto = Some(n),
         OptionName::Nodes => taken.nodes = Some(n),
         OptionName::Candidates => taken.candidates = Some(n),
         OptionName::Workers => taken.workers = Some(n),
@@ -88,5 +92,16 @@ pub fn chosen(name: OptionName, taken: Taken) -> u64
     match kept_for(name, taken) {
         Some(n) => n,
         None => row_of(name).usual,
+    }
+}
+
+/// Whether the last size, where one was given, isn't below the first.
+pub fn are_in_order(taken: Taken) -> bool
+    requires { AreInRange taken }
+    ensures { IsTrue result ↔ AreInOrder taken }
+{
+    match taken.upto {
+        Some(last) => chosen(OptionName::Size, taken) <= last,
+        None => true,
     }
 }

@@ -11,8 +11,9 @@ usage: scott COMMAND [OPTION ..] < FILE
     --size 1 to 8          how many elements the first finder's models have (2)
     --nodes 1 to 10000000  how many nodes each search for a model may take (100000)
     --candidates 0 to 128  how many input clauses each finder tries to satisfy (128)
-  model                    a problem: its first model of a size
+  model                    a problem: its first model of a size, or of the least size that has one
     --size 1 to 8          how many elements it has (2)
+    --upto 1 to 8          how many it may have: sizes are tried from --size on (none)
     --nodes 1 to 10000000  how many nodes each piece of the search may take (100000)
     --workers 1 to 8       how many look for it (1)
   bench N                  the prover on a ladder of 1 to 1000 rungs; nothing is read
@@ -23,12 +24,16 @@ An option is `--name value` or `--name=value`, once, in any order behind the com
 /// An option: its command, its name, and the least and the greatest value.
 type Row = (&'static str, &'static str, u64, u64);
 
-const OPTIONS: [Row; 7] = [
+/// The first size where none is given.
+const USUAL_SIZE: u64 = 2;
+
+const OPTIONS: [Row; 8] = [
     ("prove", "--finders", 0, 8),
     ("prove", "--size", 1, 8),
     ("prove", "--nodes", 1, 10_000_000),
     ("prove", "--candidates", 0, 128),
     ("model", "--size", 1, 8),
+    ("model", "--upto", 1, 8),
     ("model", "--nodes", 1, 10_000_000),
     ("model", "--workers", 1, 8),
 ];
@@ -48,7 +53,32 @@ fn is_in_range(value: &str, from: u64, to: u64) -> bool {
     is_value && matches!(value.parse::<u64>(), Ok(number) if from <= number && number <= to)
 }
 
-/// The first word behind a command with options that isn't understood; where each is, an option stands twice.
+/// The number behind the name, of words that are understood one by one.
+fn number_of(words: &[String], name: &str) -> Option<u64> {
+    let mut is_next = false;
+    for word in words {
+        let value = match word.split_once('=') {
+            Some((front, value)) if front == name => Some(value),
+            _ => if is_next { Some(word.as_str()) } else { None },
+        };
+        if let Some(value) = value {
+            return value.parse::<u64>().ok();
+        }
+        is_next = word.as_str() == name;
+    }
+    None
+}
+
+/// Why words are refused that are understood one by one: the sizes end before they begin, or an option stands twice.
+fn about_all(alloc: Global, command: &str, words: &[String]) -> Result<String, AllocError> {
+    let first = number_of(words, "--size").unwrap_or(USUAL_SIZE);
+    match number_of(words, "--upto") {
+        Some(last) if last < first => format!(in alloc; "--upto {last} is below --size {first}"),
+        _ => format!(in alloc; "an option of {command} stands twice"),
+    }
+}
+
+/// The first word behind a command with options that isn't understood; where each is, why they don't go together.
 fn about_options(alloc: Global, command: &str, words: &[String]) -> Result<String, AllocError> {
     let mut open = None;
     for word in words {
@@ -75,7 +105,7 @@ fn about_options(alloc: Global, command: &str, words: &[String]) -> Result<Strin
         Some((_, option, from, to)) => format!(in alloc;
             "{option} takes a number from {from} to {to}"
         ),
-        None => format!(in alloc; "an option of {command} stands twice"),
+        None => about_all(alloc, command, words),
     }
 }
 
